@@ -1,0 +1,334 @@
+-- Document 01, Images: the reader accepts exactly the grammar, and gives its sign, i, f and kind; and the laws of the reader's loop.
+-- Each image runs to its own counts, and what is accepted is an image (ImageTails). Assumes nothing.
+use Prim.Native.Nat.{ℕ, zero, suc, _+_, _<_, _≤_}
+use native.Mathlib.Omega.{arith}
+use native.Mathlib.Numerals.{add-one}
+use mathlib.Core.Path.{_≡_, refl, ap, sym, _∙_, subst⁻¹}
+use mathlib.Core.Logic.{_⊎_, inl, inr}
+use mathlib.Core.List.{List, [], _∷_, _++_}
+use mathlib.Core.Bool.{Bool, true, false, false≢true}
+use lib.Dec.{ltb, eqb}
+use lib.ListN.{length, drop, getD, drop-of-length-le}
+use lib.Seq.{drop-cons}
+use borrow.Author.Tests.{eqb-false, ltb-true, ltb-false, lt-ltb, le-ltb, eq-eqb, ne-eqb}
+use Rattle.decimal.specs.declared.image.Sign.{Sign}
+use Rattle.decimal.specs.declared.image.Sign.the-variants.{Unsigned, Plus, Minus}
+use Rattle.decimal.specs.declared.image.Image.{Image}
+use Rattle.decimal.specs.declared.image.State.{State}
+use Rattle.decimal.specs.declared.image.State.the-variants.{Start, Signed, Integer, Comma, Point, Fraction, Up, Stopped}
+use Rattle.decimal.specs.Answer.{Answer, done, refused}
+use Rattle.decimal.specs.Digits.{precision}
+use Rattle.decimal.specs.Image.{plusByte, minusByte, hashByte, pointByte, ups}
+use Rattle.decimal.specs.Image.{signBytes, times, fractionBytes, upBytes, imageBytes, hashes, IsImage}
+use Rattle.decimal.specs.Image.{afterUp, nextState, runState, isImage, isExponential, integerHash, fractionHash, counted, integersFrom, fractionsFrom}
+use Rattle.decimal.specs.Image.{signOf, leadingSign, checkImage, scannedImage, readImage, ReadsAs, within, tooMany, noImage}
+use Rattle.decimal.proofs.ImageTails.{key, some-image}
+
+-- An image runs to its counts.
+
+-- bytes read from a state on are accepted, with this kind and these counts
+record Run (s : State) (bs : List ℕ) (kind : Bool) (before behind : ℕ) : Type 0 where
+  accepted : isImage (runState s bs) ≡ true
+  exponential : isExponential (runState s bs) ≡ kind
+  integers : integersFrom s bs ≡ before
+  fractions : fractionsFrom s bs ≡ behind
+
+-- one byte more in front
+over : (s : State) (b : ℕ) {bs : List ℕ} {kind : Bool} {before behind : ℕ} → Run (nextState s b) bs kind before behind
+    → Run s (b ∷ bs) kind (counted (integerHash (nextState s b)) before) (counted (fractionHash (nextState s b)) behind)
+unfolding runState integersFrom fractionsFrom
+over s b r =
+    record {
+      accepted = r .accepted;
+      exponential = r .exponential;
+      integers = ap (counted (integerHash (nextState s b))) (r .integers);
+      fractions = ap (counted (fractionHash (nextState s b))) (r .fractions);
+    }
+
+fraction-run : (behind : ℕ) (kind : Bool) → Run (Fraction false) (times behind hashByte ++ upBytes kind) kind 0 behind
+unfolding runState nextState integersFrom fractionsFrom times upBytes
+fraction-run zero true = record { accepted = refl; exponential = refl; integers = refl; fractions = refl }
+fraction-run zero false = record { accepted = refl; exponential = refl; integers = refl; fractions = refl }
+fraction-run (suc n) kind = over (Fraction false) hashByte (fraction-run n kind)
+
+-- the bytes behind the sign
+abbrev bodyBytes : ℕ → ℕ → Bool → List ℕ
+bodyBytes before behind kind = times before hashByte ++ (fractionBytes behind ++ upBytes kind)
+
+integer-run : (before behind : ℕ) (kind : Bool) → Run (Integer false) (bodyBytes before behind kind) kind before behind
+unfolding runState nextState integersFrom fractionsFrom times fractionBytes upBytes
+integer-run zero zero true = record { accepted = refl; exponential = refl; integers = refl; fractions = refl }
+integer-run zero zero false = record { accepted = refl; exponential = refl; integers = refl; fractions = refl }
+integer-run zero (suc n) kind = over (Integer false) pointByte (over (Point false) hashByte (fraction-run n kind))
+integer-run (suc m) behind kind = over (Integer false) hashByte (integer-run m behind kind)
+
+start-run : (before behind : ℕ) (kind : Bool) → 0 < before + behind → Run Start (bodyBytes before behind kind) kind before behind
+unfolding nextState times fractionBytes
+start-run zero zero kind h = absurd (omega arith)
+start-run zero (suc n) kind h = over Start pointByte (over (Point false) hashByte (fraction-run n kind))
+start-run (suc m) behind kind h = over Start hashByte (integer-run m behind kind)
+
+signed-run : (before behind : ℕ) (kind : Bool) → 0 < before + behind → Run Signed (bodyBytes before behind kind) kind before behind
+unfolding nextState times fractionBytes
+signed-run zero zero kind h = absurd (omega arith)
+signed-run zero (suc n) kind h = over Signed pointByte (over (Point false) hashByte (fraction-run n kind))
+signed-run (suc m) behind kind h = over Signed hashByte (integer-run m behind kind)
+
+-- each image, with its sign
+whole-run : (sign : Sign) (before behind : ℕ) (kind : Bool) → 0 < before + behind
+    → Run Start (signBytes sign ++ bodyBytes before behind kind) kind before behind
+unfolding nextState signBytes
+whole-run Unsigned before behind kind h = start-run before behind kind h
+whole-run Plus before behind kind h = over Start plusByte (signed-run before behind kind h)
+whole-run Minus before behind kind h = over Start minusByte (signed-run before behind kind h)
+
+-- the sign that is read
+whole-sign : (sign : Sign) (before behind : ℕ) (kind : Bool) → 0 < before + behind
+    → leadingSign (signBytes sign ++ bodyBytes before behind kind) ≡ sign
+unfolding leadingSign signBytes times fractionBytes
+whole-sign Unsigned zero zero kind h = absurd (omega arith)
+whole-sign Unsigned zero (suc n) kind h = refl
+whole-sign Unsigned (suc m) behind kind h = refl
+whole-sign Plus before behind kind h = refl
+whole-sign Minus before behind kind h = refl
+
+-- The theorem.
+
+-- each image is accepted, and read back with its sign, i, f and kind
+pub scanned-complete : (im : Image) → 0 < hashes im
+    → (isImage (runState Start (imageBytes im)) ≡ true) × (scannedImage (imageBytes im) ≡ im)
+unfolding imageBytes scannedImage
+scanned-complete im h =
+    let r = whole-run (im .sign) (im .integer) (im .fraction) (im .exponential) h in
+    let s = whole-sign (im .sign) (im .integer) (im .fraction) (im .exponential) h in
+    (r .accepted, λ k. record { sign = s k; integer = r .integers k; fraction = r .fractions k; exponential = r .exponential k })
+
+-- the same of bytes that are an image
+image-scanned : {bytes : List ℕ} {im : Image} → IsImage bytes im
+    → (isImage (runState Start bytes) ≡ true) × (scannedImage bytes ≡ im)
+image-scanned {bytes} {im} r =
+    subst⁻¹ (λ (l : List ℕ). (isImage (runState Start l) ≡ true) × (scannedImage l ≡ im)) (r .rendered)
+    (scanned-complete im (r .nonempty))
+
+-- bytes that are accepted are an image, the one that is read
+pub scanned-sound : (bytes : List ℕ) → isImage (runState Start bytes) ≡ true → IsImage bytes (scannedImage bytes)
+scanned-sound bytes h =
+    let r = some-image bytes h in
+    subst⁻¹ (λ (im : Image). IsImage bytes im) (image-scanned (r .holds) .1) (r .holds)
+
+-- bytes are one image at most
+pub image-unique : {bytes : List ℕ} {a b : Image} → IsImage bytes a → IsImage bytes b → a ≡ b
+image-unique r s = sym (image-scanned r .1) ∙ image-scanned s .1
+
+-- an image with no # is refused with 1
+pub check-none : (place : ℕ) (im : Image) → hashes im ≡ 0 → checkImage place im ≡ refused 1 place
+unfolding checkImage
+check-none place im h = simp (eq-eqb (hashes im) 0 h)
+
+-- one with more than precision is refused with 2
+pub check-many : (place : ℕ) (im : Image) → precision < hashes im → checkImage place im ≡ refused 2 place
+unfolding checkImage
+check-many place im h =
+    let n : hashes im ≡ 0 → ⊥ = λ e. omega arith in
+    simp (ne-eqb (hashes im) 0 n, lt-ltb precision (hashes im) h)
+
+-- any other is passed
+pub check-within : (place : ℕ) (im : Image) → 0 < hashes im → hashes im ≤ precision → checkImage place im ≡ done im
+unfolding checkImage
+check-within place im p h =
+    let n : hashes im ≡ 0 → ⊥ = λ e. omega arith in
+    simp (ne-eqb (hashes im) 0 n, le-ltb precision (hashes im) h)
+
+-- bytes that are an image are checked
+reads-checked : (place : ℕ) {bytes : List ℕ} {im : Image} → IsImage bytes im → readImage place bytes ≡ checkImage place im
+unfolding readImage
+reads-checked place r = let s = image-scanned r in rw (s .0, s .1)
+
+-- an image of no more than precision # signs is read
+pub reads-image : (place : ℕ) {bytes : List ℕ} {im : Image} → IsImage bytes im → hashes im ≤ precision → readImage place bytes ≡ done im
+reads-image place {bytes} {im} r h = reads-checked place r ∙ check-within place im (r .nonempty) h
+
+-- an image of more is refused with 2
+pub reads-too-many : (place : ℕ) {bytes : List ℕ} {im : Image} → IsImage bytes im → precision < hashes im → readImage place bytes ≡ refused 2 place
+reads-too-many place {bytes} {im} r h = reads-checked place r ∙ check-many place im h
+
+-- where the machine does not accept, the answer is 1
+reads-refused : (place : ℕ) (bytes : List ℕ) → isImage (runState Start bytes) ≡ false → readImage place bytes ≡ refused 1 place
+unfolding readImage
+reads-refused place bytes h = rw h
+
+-- bytes that are no image are refused with 1
+pub reads-none : (place : ℕ) (bytes : List ℕ) → ((im : Image) → IsImage bytes im → ⊥) → readImage place bytes ≡ refused 1 place
+reads-none place bytes none = go (isImage (runState Start bytes)) refl
+  where
+    go : (t : Bool) → isImage (runState Start bytes) ≡ t → readImage place bytes ≡ refused 1 place
+    go true h = absurd (none (scannedImage bytes) (scanned-sound bytes h))
+    go false h = reads-refused place bytes h
+
+-- and there is no image
+no-image : (bytes : List ℕ) → isImage (runState Start bytes) ≡ false → (im : Image) → IsImage bytes im → ⊥
+no-image bytes h im r = false≢true (sym h ∙ image-scanned r .0)
+
+-- bytes are read in one of the three ways
+pub reads-exactly : (place : ℕ) (bytes : List ℕ) → ReadsAs place bytes
+reads-exactly place bytes = go (isImage (runState Start bytes)) refl
+  where
+    sized : IsImage bytes (scannedImage bytes) → (t : Bool) → ltb precision (hashes (scannedImage bytes)) ≡ t → ReadsAs place bytes
+    sized r true h = let l = ltb-true _ _ h in tooMany (scannedImage bytes) r l (reads-too-many place r l)
+    sized r false h = let l = ltb-false _ _ h in within (scannedImage bytes) r l (reads-image place r l)
+
+    go : (t : Bool) → isImage (runState Start bytes) ≡ t → ReadsAs place bytes
+    go true h = sized (scanned-sound bytes h) (ltb precision (hashes (scannedImage bytes))) refl
+    go false h = noImage (no-image bytes h) (reads-refused place bytes h)
+
+-- a refusal is no result
+never-done : {A : Type 0} {number place : ℕ} {j : Image} {a : Answer Image} → a ≡ refused number place → a ≡ done j → A
+never-done p q = let z : _≡_ {A = ℕ} 0 1 = cc in absurd (omega arith)
+
+-- a result is one result
+same-done : {a : Answer Image} {i j : Image} → a ≡ done i → a ≡ done j → j ≡ i
+same-done p q = cc
+
+-- what a check passes is the image itself, with at least one # and no more than precision
+pub check-image-done : (place : ℕ) (im j : Image) → checkImage place im ≡ done j → (j ≡ im) × (0 < hashes im) × (hashes im ≤ precision)
+check-image-done place im j e = some (key (hashes im) 0)
+  where
+    few : 0 < hashes im → (t : Bool) → ltb precision (hashes im) ≡ t → (j ≡ im) × (0 < hashes im) × (hashes im ≤ precision)
+    few p true h = never-done (check-many place im (ltb-true _ _ h)) e
+    few p false h = let l = ltb-false _ _ h in (same-done (check-within place im p l) e, p, l)
+
+    some : (hashes im ≡ 0) ⊎ (eqb (hashes im) 0 ≡ false) → (j ≡ im) × (0 < hashes im) × (hashes im ≤ precision)
+    some (inl z) = never-done (check-none place im z) e
+    some (inr n) =
+        let m : hashes im ≡ 0 → ⊥ = eqb-false _ _ n in
+        few (omega arith) (ltb precision (hashes im)) refl
+
+-- what is read is the image that the bytes are, of no more than precision # signs
+pub read-done : (place : ℕ) (bytes : List ℕ) (im : Image) → readImage place bytes ≡ done im → IsImage bytes im × (hashes im ≤ precision)
+read-done place bytes im e = go (reads-exactly place bytes)
+  where
+    go : ReadsAs place bytes → IsImage bytes im × (hashes im ≤ precision)
+    go (within j r h q) =
+        subst⁻¹ (λ (i : Image). IsImage bytes i × (hashes i ≤ precision)) (same-done q e) (r, h)
+    go (tooMany j r h q) = never-done q e
+    go (noImage n q) = never-done q e
+
+-- The code's tables, where a test picks the case.
+
+-- an Up below four counts on
+pub up-below : {s : State} {n : ℕ} → s ≡ Up n → n < ups → Up (n + 1) ≡ afterUp s
+up-below {s} {n} e h = sym (ap afterUp e ∙ rw (lt-ltb n ups h))
+
+-- and stops there
+pub up-full : {s : State} {n : ℕ} → s ≡ Up n → ups ≤ n → Stopped ≡ afterUp s
+up-full {s} {n} e h = sym (ap afterUp e ∙ rw (le-ltb n ups h))
+
+-- the first byte says the sign
+pub leads : (bytes : List ℕ) → 0 < length bytes → leadingSign bytes ≡ signOf (getD bytes 0 0)
+unfolding leadingSign
+leads [] h = absurd (omega arith)
+leads (b ∷ bs) h = refl
+
+-- no byte, no sign
+pub leads-none : (bytes : List ℕ) → length bytes ≡ 0 → leadingSign bytes ≡ Unsigned
+unfolding leadingSign
+leads-none [] h = refl
+leads-none (b ∷ bs) h = absurd (omega arith)
+
+-- a byte that is no sign
+pub unsigned : (b : ℕ) → (b ≡ plusByte → ⊥) → (b ≡ minusByte → ⊥) → signOf b ≡ Unsigned
+unsigned b p m = rw (ne-eqb b plusByte p, ne-eqb b minusByte m)
+
+-- The reader's loop: what was read and what is left make the whole.
+
+-- the state and the counts after so many bytes
+pub record Reading (bytes : List ℕ) (state : State) (before behind done-to : ℕ) : Type 0 where
+  pub inside : done-to ≤ length bytes
+  pub few : before + behind ≤ done-to
+  pub ends : runState state (drop done-to bytes) ≡ runState Start bytes
+  pub integers : before + integersFrom state (drop done-to bytes) ≡ integersFrom Start bytes
+  pub fractions : behind + fractionsFrom state (drop done-to bytes) ≡ fractionsFrom Start bytes
+
+-- before the first byte
+pub reading-starts : (bytes : List ℕ) → Reading bytes Start 0 0 0
+reading-starts bytes = record { inside = omega arith; few = omega arith; ends = refl; integers = omega arith; fractions = omega arith }
+
+-- what a # adds
+count-one : (t : Bool) (n c r : ℕ) → r ≡ counted t 0 → (n + r) + c ≡ n + counted t c
+count-one true n c r e = omega arith
+count-one false n c r e = omega arith
+
+-- one byte counts once at most
+pub hash-once : (s : State) {i f : ℕ} → i ≡ counted (integerHash s) 0 → f ≡ counted (fractionHash s) 0 → i + f ≤ 1
+hash-once Start p q = omega arith
+hash-once Signed p q = omega arith
+hash-once (Integer g) p q = omega arith
+hash-once Comma p q = omega arith
+hash-once (Point g) p q = omega arith
+hash-once (Fraction g) p q = omega arith
+hash-once (Up n) p q = omega arith
+hash-once Stopped p q = omega arith
+
+-- one byte further
+pub reading-turns : {bytes : List ℕ} {s t : State} {before behind n i f : ℕ} → Reading bytes s before behind n → n < length bytes
+    → t ≡ nextState s (getD bytes n 0) → i ≡ counted (integerHash t) 0 → f ≡ counted (fractionHash t) 0
+    → Reading bytes t (before + i) (behind + f) (n + 1)
+unfolding runState integersFrom fractionsFrom
+reading-turns {bytes} {s} {t} {before} {behind} {n} {i} {f} r h e p q =
+    let o = hash-once t p q in
+    let rest : List ℕ = drop (n + 1) bytes in
+    let left : getD bytes n 0 ∷ rest ≡ drop n bytes = sym (rw (add-one, drop-cons bytes n 0)) in
+    record {
+      inside = omega arith;
+      few = omega arith;
+      ends = ap (λ (x : State). runState x rest) e ∙ ap (runState s) left ∙ r .ends;
+      integers =
+          count-one (integerHash t) before (integersFrom t rest) i p
+          ∙ ap (λ (x : State). before + counted (integerHash x) (integersFrom x rest)) e
+          ∙ ap (λ (l : List ℕ). before + integersFrom s l) left
+          ∙ r .integers;
+      fractions =
+          count-one (fractionHash t) behind (fractionsFrom t rest) f q
+          ∙ ap (λ (x : State). behind + counted (fractionHash x) (fractionsFrom x rest)) e
+          ∙ ap (λ (l : List ℕ). behind + fractionsFrom s l) left
+          ∙ r .fractions;
+    }
+
+-- the state and the counts are those of all the bytes
+pub record WasRead (bytes : List ℕ) (state : State) (before behind : ℕ) : Type 0 where
+  pub ended : runState Start bytes ≡ state
+  pub all-integers : integersFrom Start bytes ≡ before
+  pub all-fractions : fractionsFrom Start bytes ≡ behind
+
+-- behind the last byte
+pub reading-ends : {bytes : List ℕ} {s : State} {before behind n : ℕ} → Reading bytes s before behind n → length bytes ≤ n
+    → WasRead bytes s before behind
+unfolding runState integersFrom fractionsFrom
+reading-ends {bytes} {s} {before} {behind} {n} r h =
+    let none : drop n bytes ≡ [] = drop-of-length-le bytes h in
+    record {
+      ended = sym (r .ends) ∙ ap (runState s) none;
+      all-integers = sym (r .integers) ∙ ap (λ (l : List ℕ). before + integersFrom s l) none ∙ omega arith;
+      all-fractions = sym (r .fractions) ∙ ap (λ (l : List ℕ). behind + fractionsFrom s l) none ∙ omega arith;
+    }
+
+-- the answer where the state is no image's
+pub answers-none : (place : ℕ) {bytes : List ℕ} {s : State} {before behind : ℕ} → WasRead bytes s before behind → isImage s ≡ false
+    → readImage place bytes ≡ refused 1 place
+answers-none place {bytes} w h = reads-refused place bytes (ap isImage (w .ended) ∙ h)
+
+-- the answer where it is
+pub answers-checked : (place : ℕ) {bytes : List ℕ} {s : State} {before behind : ℕ} {sign : Sign} {kind : Bool} → WasRead bytes s before behind
+    → isImage s ≡ true → sign ≡ leadingSign bytes → kind ≡ isExponential s
+    → readImage place bytes ≡ checkImage place (record { sign = sign; integer = before; fraction = behind; exponential = kind })
+unfolding readImage scannedImage
+answers-checked place {bytes} w h p q =
+    rw (ap isImage (w .ended) ∙ h)
+    (ap (checkImage place)
+    (λ k.
+    record {
+      sign = sym p k;
+      integer = w .all-integers k;
+      fraction = w .all-fractions k;
+      exponential = (ap isExponential (w .ended) ∙ sym q) k;
+    }))

@@ -1,0 +1,12 @@
+-- The laws of layer 1, from the lowest up.
+pub mod BoolLaws
+pub mod PowerLaws
+pub mod DigitLaws
+pub mod Table
+pub mod ScaleLaws
+pub mod NumberLaws
+pub mod MagnitudeLaws
+pub mod ImageTails
+pub mod ImageLaws
+pub mod TruncationLaws
+pub mod KeptLaws

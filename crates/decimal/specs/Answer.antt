@@ -1,0 +1,18 @@
+-- What a call answers: its result, or document 01's refusal number and place.
+use Prim.Native.Nat.{ℕ}
+use mathlib.Core.Bool.{Bool, true, false}
+
+infixl 20 _then_
+pub data Answer (A : Type 0) : Type 0 where
+  done : A → Answer A
+  refused : ℕ → ℕ → Answer A
+
+-- the first refusal, else what the second step makes of the first one's result: the order of refusals reads off a definition
+unfoldable pub _then_ : {A B : Type 0} → Answer A → (A → Answer B) → Answer B
+done a then f = f a
+refused number place then f = refused number place
+
+-- the first value where the test holds, else the second
+abbrev pub pick : {A : Type 0} → Bool → A → A → A
+pick true a b = a
+pick false a b = b

@@ -1,0 +1,6 @@
+pub mod Answer
+pub mod Digits
+pub mod Number
+pub mod Image
+pub mod Truncation
+pub mod Known

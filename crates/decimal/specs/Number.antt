@@ -1,0 +1,77 @@
+-- Document 01, Numbers: normal form, the meaning of a number, and its constructors.
+use Prim.Native.Nat.{ℕ, _+_, _-_, _*_, _^_}
+use mathlib.Core.Bool.{Bool, false, not, _&&_}
+use lib.Dec.{ltb, leb, eqb}
+use Rattle.decimal.specs.declared.number.Number.{Number}
+use Rattle.decimal.specs.declared.number.NumberAnswer.{NumberAnswer}
+use Rattle.decimal.specs.declared.number.NumberAnswer.the-variants as gives
+use Rattle.decimal.specs.Answer.{Answer, done, refused, pick}
+use Rattle.decimal.specs.Digits.{precision, leadingZeros}
+
+-- the largest exponent: document 01's 99. A number holds its exponent e as e + exponentLimit
+abbrev pub exponentLimit : ℕ
+exponentLimit = 99
+
+-- zero: plus, m = 0, e = 0
+abbrev pub zeroNumber : Number
+zeroNumber = record { negative = false; mantissa = 0; exponent = exponentLimit }
+
+-- the largest magnitude
+abbrev pub largestNumber : Number
+largestNumber = record { negative = false; mantissa = 10 ^ precision - 1; exponent = 2 * exponentLimit }
+
+-- zero is plus, m = 0, e = 0; otherwise m is from 10^12 to 10^13 − 1 and e from −99 to 99
+unfoldable pub normal : Number → Bool
+normal n =
+    pick (eqb (n .mantissa) 0)
+    (not (n .negative) && eqb (n .exponent) exponentLimit)
+    (leb (10 ^ (precision - 1)) (n .mantissa) && (ltb (n .mantissa) (10 ^ precision) && leb (n .exponent) (2 * exponentLimit)))
+
+-- the meaning of a number is its magnitude m × 10^(e − 12), here as a whole number of units of 10^−(99 + 12), and its sign
+unfoldable pub magnitude : Number → ℕ
+magnitude n = n .mantissa * 10 ^ n .exponent
+
+-- one, in those units
+abbrev pub unit : ℕ
+unit = 10 ^ (exponentLimit + (precision - 1))
+
+-- the number, or 3 where it is not in normal form
+unfoldable pub checkNumber : ℕ → Number → Answer Number
+checkNumber place n = pick (normal n) (done n) (refused 3 place)
+
+-- the number of a sign, a mantissa and e + exponentLimit
+abbrev pub newNumber : ℕ → Bool → ℕ → ℕ → Answer Number
+newNumber place negative mantissa exponent =
+    checkNumber place (record { negative = negative; mantissa = mantissa; exponent = exponent })
+
+-- the number with m = whole × 10^zeros and the exponent e = up − down + 12 − zeros, 5 where e is outside its limits
+unfoldable pub shiftedNumber : ℕ → Bool → ℕ → ℕ → ℕ → ℕ → Answer Number
+shiftedNumber place negative whole up down zeros =
+    pick (ltb (exponentLimit + (precision - 1) + up) (down + zeros))
+    (refused 5 place)
+    (pick (ltb (2 * exponentLimit) (exponentLimit + (precision - 1) + up - (down + zeros)))
+    (refused 5 place)
+    (done
+    (record {
+      negative = negative;
+      mantissa = whole * 10 ^ zeros;
+      exponent = exponentLimit + (precision - 1) + up - (down + zeros);
+    })))
+
+-- the normal number with the magnitude whole × 10^up / 10^down: 3 where whole has over 13 digits, then zero, then 5 where e is outside
+unfoldable pub scaledNumber : ℕ → Bool → ℕ → ℕ → ℕ → Answer Number
+scaledNumber place negative whole up down =
+    pick (leb (10 ^ precision) whole)
+    (refused 3 place)
+    (pick (eqb whole 0)
+    (done zeroNumber)
+    (shiftedNumber place negative whole up down (leadingZeros precision whole)))
+
+-- the number of a whole count of wheel steps
+abbrev pub stepsNumber : ℕ → Answer Number
+stepsNumber steps = scaledNumber 0 false steps 0 0
+
+-- each case of the code's answer, in document 01's numbers and values
+abbrev pub numberMeaning : NumberAnswer → Answer Number
+numberMeaning (gives.Number n) = done n
+numberMeaning (gives.Refused r) = refused (r .number) (r .place)

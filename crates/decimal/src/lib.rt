@@ -1,0 +1,31 @@
+// Layer 1: decimal numbers and # images (document 01: Numbers, Images). An upper layer uses the names below and what they promise.
+mod digits;
+mod image;
+mod number;
+mod powers;
+mod refusal;
+mod truncation;
+
+pub use digits::PRECISION;
+pub use digits::digits_of;
+pub use image::Image;
+pub use image::ImageAnswer;
+pub use image::NOT_AN_IMAGE;
+pub use image::Sign;
+pub use image::State;
+pub use image::TOO_MANY_DIGITS;
+pub use image::next_state;
+pub use image::read_image;
+pub use number::EXPONENT_LIMIT;
+pub use number::EXPONENT_OUTSIDE;
+pub use number::NOT_NORMAL;
+pub use number::Number;
+pub use number::NumberAnswer;
+pub use refusal::Refusal;
+pub use truncation::EXCEEDS;
+pub use truncation::FitAnswer;
+pub use truncation::Truncation;
+pub use truncation::fit;
+pub use truncation::fit_packed;
+pub use truncation::truncate;
+pub use truncation::truncated;

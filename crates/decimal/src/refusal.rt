@@ -1,0 +1,5 @@
+// Why a call was refused: a number of document 01's table "When a call says no", and the place, counted from 0.
+pub struct Refusal {
+    pub number: u8,
+    pub place: usize,
+}
