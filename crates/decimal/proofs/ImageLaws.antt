@@ -14,6 +14,7 @@ use borrow.Author.Tests.{eqb-false, ltb-true, ltb-false, lt-ltb, le-ltb, eq-eqb,
 use Rattle.decimal.specs.declared.image.Sign.{Sign}
 use Rattle.decimal.specs.declared.image.Sign.the-variants.{Unsigned, Plus, Minus}
 use Rattle.decimal.specs.declared.image.Image.{Image}
+use Rattle.decimal.specs.declared.image.Scan.{Scan}
 use Rattle.decimal.specs.declared.image.State.{State}
 use Rattle.decimal.specs.declared.image.State.the-variants.{Start, Signed, Integer, Comma, Point, Fraction, Up, Stopped}
 use Rattle.decimal.specs.Answer.{Answer, done, refused}
@@ -21,7 +22,7 @@ use Rattle.decimal.specs.Digits.{precision}
 use Rattle.decimal.specs.Image.{plusByte, minusByte, hashByte, pointByte, ups}
 use Rattle.decimal.specs.Image.{signBytes, times, fractionBytes, upBytes, imageBytes, hashes, IsImage}
 use Rattle.decimal.specs.Image.{afterUp, nextState, runState, isImage, isExponential, integerHash, fractionHash, counted, integersFrom, fractionsFrom}
-use Rattle.decimal.specs.Image.{signOf, leadingSign, checkImage, scannedImage, readImage, ReadsAs, within, tooMany, noImage}
+use Rattle.decimal.specs.Image.{signOf, leadingSign, checkImage, scannedImage, scanOf, readImage, ReadsAs, within, tooMany, noImage}
 use Rattle.decimal.proofs.ImageTails.{key, some-image}
 
 -- An image runs to its counts.
@@ -140,7 +141,7 @@ check-within place im p h =
     simp (ne-eqb (hashes im) 0 n, le-ltb precision (hashes im) h)
 
 -- bytes that are an image are checked
-reads-checked : (place : ℕ) {bytes : List ℕ} {im : Image} → IsImage bytes im → readImage place bytes ≡ checkImage place im
+pub reads-checked : (place : ℕ) {bytes : List ℕ} {im : Image} → IsImage bytes im → readImage place bytes ≡ checkImage place im
 unfolding readImage
 reads-checked place r = let s = image-scanned r in rw (s .0, s .1)
 
@@ -153,7 +154,7 @@ pub reads-too-many : (place : ℕ) {bytes : List ℕ} {im : Image} → IsImage b
 reads-too-many place {bytes} {im} r h = reads-checked place r ∙ check-many place im h
 
 -- where the machine does not accept, the answer is 1
-reads-refused : (place : ℕ) (bytes : List ℕ) → isImage (runState Start bytes) ≡ false → readImage place bytes ≡ refused 1 place
+pub reads-refused : (place : ℕ) (bytes : List ℕ) → isImage (runState Start bytes) ≡ false → readImage place bytes ≡ refused 1 place
 unfolding readImage
 reads-refused place bytes h = rw h
 
@@ -312,23 +313,19 @@ reading-ends {bytes} {s} {before} {behind} {n} r h =
       all-fractions = sym (r .fractions) ∙ ap (λ (l : List ℕ). behind + fractionsFrom s l) none ∙ omega arith;
     }
 
--- the answer where the state is no image's
-pub answers-none : (place : ℕ) {bytes : List ℕ} {s : State} {before behind : ℕ} → WasRead bytes s before behind → isImage s ≡ false
-    → readImage place bytes ≡ refused 1 place
-answers-none place {bytes} w h = reads-refused place bytes (ap isImage (w .ended) ∙ h)
-
--- the answer where it is
-pub answers-checked : (place : ℕ) {bytes : List ℕ} {s : State} {before behind : ℕ} {sign : Sign} {kind : Bool} → WasRead bytes s before behind
-    → isImage s ≡ true → sign ≡ leadingSign bytes → kind ≡ isExponential s
-    → readImage place bytes ≡ checkImage place (record { sign = sign; integer = before; fraction = behind; exponential = kind })
-unfolding readImage scannedImage
-answers-checked place {bytes} w h p q =
-    rw (ap isImage (w .ended) ∙ h)
-    (ap (checkImage place)
-    (λ k.
+-- the parts that the code finds make the scan
+pub scans : {bytes : List ℕ} {s : State} {before behind : ℕ} {sign : Sign} {kind : Bool} → WasRead bytes s before behind
+    → sign ≡ leadingSign bytes → kind ≡ isExponential s
+    → _≡_ {A = Scan} (record { state = s; image = record { sign = sign; integer = before; fraction = behind; exponential = kind } }) (scanOf bytes)
+unfolding scannedImage
+scans w p q =
+    λ k.
     record {
-      sign = sym p k;
-      integer = w .all-integers k;
-      fraction = w .all-fractions k;
-      exponential = (ap isExponential (w .ended) ∙ sym q) k;
-    }))
+      state = sym (w .ended) k;
+      image = record {
+        sign = p k;
+        integer = sym (w .all-integers) k;
+        fraction = sym (w .all-fractions) k;
+        exponential = (q ∙ sym (ap isExponential (w .ended))) k;
+      };
+    }

@@ -9,6 +9,7 @@ use Rattle.decimal.specs.declared.image.Sign.the-variants.{Unsigned, Plu
 use Rattle.decimal.specs.declared.image.Image.{Image}
 use Rattle.decimal.specs.declared.image.ImageAnswer.{ImageAnswer}
 use Rattle.decimal.specs.declared.image.ImageAnswer.the-variants as gives
+use Rattle.decimal.specs.declared.image.Scan.{Scan}
 use Rattle.decimal.specs.declared.image.State.{State}
 use Rattle.decimal.specs.declared.image.State.the-variants.{Start, Signed, Integer, Comma, Point, Fraction, Up, Stopped}
 use Rattle.decimal.specs.Answer.{Answer, done, refused, pick}
@@ -234,6 +235,10 @@ scannedImage bytes =
       fraction = fractionsFrom Start bytes;
       exponential = isExponential (runState Start bytes);
     }
+
+-- the code's scan of bytes: the last state, and what was read
+abbrev pub scanOf : List ℕ → Scan
+scanOf bytes = record { state = runState Start bytes; image = scannedImage bytes }
 
 -- bytes read as an image: 1 where they are none, 2 where n is above 13
 unfoldable pub readImage : ℕ → List ℕ → Answer Image

@@ -15,6 +15,7 @@ ghost use Rattle.decimal.specs.Image.{
   counted,
   leadingSign,
   checkImage,
+  scanOf,
   readImage,
   imageMeaning,
 };
@@ -66,6 +67,12 @@ pub enum State {
     Up(u8),
     // No field begins so.
     Stopped,
+}
+
+// What was read of bytes.
+pub struct Scan {
+    pub state: State,
+    pub image: Image,
 }
 
 // The count of 5E bytes in an exponential image.
@@ -282,9 +289,9 @@ impl Image {
     }
 }
 
-// Bytes read as an image; refused with 1 where they are none, with 2 where there are more than PRECISION # signs.
-pub fn read_image(bytes: &[u8], place: usize) -> ImageAnswer
-    ensures { λ r. ⌜ imageMeaning r ≡ readImage place (now (bytes .entry)) ⌝ }
+// What the machine has read of bytes: its last state, and the sign, the # signs and the kind that it saw.
+pub fn scan_bytes(bytes: &[u8]) -> Scan
+    ensures { λ r. ⌜ r ≡ scanOf (now (bytes .entry)) ⌝ }
 {
     let mut state = State::Start;
     let mut integer: usize = 0;
@@ -296,17 +303,27 @@ pub fn read_image(bytes: &[u8], place: usize) -> ImageAnswer
         fraction += fraction_hash(state);
         at += 1;
     }
-    if !is_image(state) {
-        return ImageAnswer::Refused(Refusal {
-            number: NOT_AN_IMAGE,
-            place,
-        });
-    }
     let image = Image {
         sign: leading_sign(bytes),
         integer,
         fraction,
         exponential: is_exponential(state),
     };
-    image.checked(place)
+    Scan { state, image }
+}
+
+// Bytes read as an image; refused with 1 where they are none, with 2 where there are more than PRECISION # signs.
+pub fn read_image(bytes: &[u8], place: usize) -> ImageAnswer
+    ensures { λ r. ⌜ imageMeaning r ≡ readImage place (now (bytes .entry)) ⌝ }
+{
+    let scan = scan_bytes(bytes);
+    let state = scan.state;
+    if is_image(state) {
+        let image = scan.image;
+        return image.checked(place);
+    }
+    ImageAnswer::Refused(Refusal {
+        number: NOT_AN_IMAGE,
+        place,
+    })
 }

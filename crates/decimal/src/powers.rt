@@ -3,7 +3,7 @@ ghost use mathlib.Core.Path.{_≡_};
 ghost use Prim.Native.Nat.{_<_, _^_};
 
 // 10^0 to 10^19, at their exponents.
-pub(crate) const POWERS: [u64; 20] = [
+pub const POWERS: [u64; 20] = [
     1,
     10,
     100,

@@ -1,12 +1,15 @@
-// Prints the rows of document 01's Known values that numbers and images decide: what an image keeps of a number, or the refusal.
-// A row is the image, the number, and the sign, the digits and (under an exponential image) the stored exponent x that are kept.
-use decimal::FitAnswer;
-use decimal::Image;
-use decimal::ImageAnswer;
+// Prints rows of document 01's Known values and the worked examples of the manual's pages CONVERT and NUM (source 000).
+// A row of the first kind is an image, a number, its alpha text between quotes, and the body of a record with this one column; or a
+// refusal's number and place. A row of the second kind is a text between quotes, its legal length, and its number in normal form.
+use codec::Numbers;
+use codec::WriteAnswer;
 use decimal::Number;
 use decimal::NumberAnswer;
 use decimal::Refusal;
 use libc::STDOUT_FILENO;
+
+// The room for a text or a body: no image is longer than this.
+const ROOM: usize = 20;
 
 // Writes a sign and a whole number.
 fn print_signed(negative: bool, whole: u64) {
@@ -35,58 +38,67 @@ fn print_exponent(held: usize) {
     }
 }
 
-// Writes a digit.
-fn print_digit(digit: u8) {
-    io::print_decimal(STDOUT_FILENO, digit as u64);
+// Writes a byte as it is.
+fn print_character(byte: u8) {
+    let one = [byte];
+    io::write_all(STDOUT_FILENO, &one);
 }
 
-// Writes the digits that an image shows, the last of those given.
-fn print_digits(image: Image, digits: [u8; decimal::PRECISION]) {
+// Writes a blank and a byte in hexadecimal.
+fn print_byte(byte: u8) {
+    io::write_all(STDOUT_FILENO, b" ");
+    io::print_hex(STDOUT_FILENO, byte as u64, 2);
+}
+
+// Writes the first bytes of a buffer, as they are or in hexadecimal.
+fn print_bytes(buffer: [u8; ROOM], size: usize, hexadecimal: bool) {
     let mut i = 0;
-    while i < decimal::PRECISION {
-        let left = decimal::PRECISION - i;
-        if left <= image.integer || left - image.integer <= image.fraction {
-            print_digit(digits[i]);
+    while i < ROOM {
+        if i < size {
+            if hexadecimal {
+                print_byte(buffer[i]);
+            } else {
+                print_character(buffer[i]);
+            }
         }
         i += 1;
     }
 }
 
-// Writes what an image keeps of a number.
-fn print_truncation(image: Image, number: Number) {
-    let truncation = decimal::truncate(image, number, 0);
-    let answer = truncation.answer;
-    if let FitAnswer::Refused(refusal) = answer {
-        print_refusal(refusal);
+// Writes the alpha text of a number under an image.
+fn print_alpha(image: &[u8], number: Number) {
+    let mut buffer = [0u8; ROOM];
+    match codec::write_alpha(image, number, &mut buffer) {
+        WriteAnswer::Refused(refusal) => print_refusal(refusal),
+        WriteAnswer::Written(size) => {
+            io::write_all(STDOUT_FILENO, b"'");
+            print_bytes(buffer, size, false);
+            io::write_all(STDOUT_FILENO, b"'");
+        }
+    }
+}
+
+// Packs a number under a contents with one column, and writes the body.
+fn print_packed(contents: &[u8], number: Number) {
+    let mut values = [Number::ZERO; codec::COLUMNS];
+    values[0] = number;
+    let mut buffer = [0u8; ROOM];
+    match codec::pack(contents, Numbers { values, count: 1 }, &mut buffer) {
+        WriteAnswer::Refused(refusal) => {
+            io::write_all(STDOUT_FILENO, b" ");
+            print_refusal(refusal);
+        }
+        WriteAnswer::Written(size) => print_bytes(buffer, size, true),
+    }
+}
+
+// Writes a row: a contents with one column, and the number whole * 10^up / 10^down.
+fn print_row(contents: &[u8], negative: bool, whole: u64, up: u16, down: u16) {
+    if contents.len() < 2 {
         return;
     }
-    if truncation.negative {
-        io::write_all(STDOUT_FILENO, b"-");
-    } else {
-        io::write_all(STDOUT_FILENO, b"+");
-    }
-    let digits = truncation.digits;
-    print_digits(image, digits);
-    if image.exponential {
-        io::write_all(STDOUT_FILENO, b" x ");
-        print_exponent(truncation.x);
-    }
-}
-
-// Writes the answer of a row: the bytes of an image, and the number whole * 10^up / 10^down.
-fn print_answer(bytes: &[u8], negative: bool, whole: u64, up: u16, down: u16) {
-    match decimal::read_image(bytes, 0) {
-        ImageAnswer::Refused(refusal) => print_refusal(refusal),
-        ImageAnswer::Image(image) => match Number::from_scaled(negative, whole, up, down, 0) {
-            NumberAnswer::Refused(refusal) => print_refusal(refusal),
-            NumberAnswer::Number(number) => print_truncation(image, number),
-        },
-    }
-}
-
-// Writes a row.
-fn print_row(bytes: &[u8], negative: bool, whole: u64, up: u16, down: u16) {
-    io::write_all(STDOUT_FILENO, bytes);
+    let image = &contents[2..];
+    io::write_all(STDOUT_FILENO, image);
     io::write_all(STDOUT_FILENO, b" ");
     print_signed(negative, whole);
     io::write_all(STDOUT_FILENO, b"E");
@@ -96,26 +108,68 @@ fn print_row(bytes: &[u8], negative: bool, whole: u64, up: u16, down: u16) {
         print_signed(false, (up - down) as u64);
     }
     io::write_all(STDOUT_FILENO, b": ");
-    print_answer(bytes, negative, whole, up, down);
+    match Number::from_scaled(negative, whole, up, down, 0) {
+        NumberAnswer::Refused(refusal) => print_refusal(refusal),
+        NumberAnswer::Number(number) => {
+            print_alpha(image, number);
+            io::write_all(STDOUT_FILENO, b"; body");
+            print_packed(contents, number);
+        }
+    }
     io::write_all(STDOUT_FILENO, b"\n");
 }
 
-// The rows.
+// Writes a text between quotes, its legal length, and its number.
+fn print_text(text: &[u8]) {
+    io::write_all(STDOUT_FILENO, b"'");
+    io::write_all(STDOUT_FILENO, text);
+    io::write_all(STDOUT_FILENO, b"': length ");
+    io::print_decimal(STDOUT_FILENO, codec::legal_length(text) as u64);
+    io::write_all(STDOUT_FILENO, b", ");
+    match codec::convert(text) {
+        NumberAnswer::Refused(refusal) => print_refusal(refusal),
+        NumberAnswer::Number(number) => {
+            print_signed(number.negative, number.mantissa);
+            io::write_all(STDOUT_FILENO, b" e ");
+            print_exponent(number.exponent);
+        }
+    }
+    io::write_all(STDOUT_FILENO, b"\n");
+}
+
+// The rows of Known values. The first four are the examples of page CONVERT; the manual prints the third as ' 1.2E+01' and the fourth as
+// '0012.195000', which are misprints.
+fn known_values() {
+    print_row(b"\x01\x03###", false, 12195, 0, 3);
+    print_row(b"\x01\x06+##.##", false, 2439, 0, 2);
+    print_row(b"\x01\x09-#.##^^^^", false, 12195, 0, 3);
+    print_row(b"\x01\x0a####.#####", false, 12195, 0, 3);
+    print_row(b"\x01\x02+#", true, 3, 0, 1);
+    print_row(b"\x01\x02##", false, 9999, 0, 2);
+    print_row(b"\x01\x02##", false, 1, 2, 0);
+    print_row(b"\x01\x08+#.#^^^^", false, 5, 0, 2);
+    print_row(b"\x01\x07#.#^^^^", false, 5, 0, 2);
+    print_row(b"\x01\x02##", true, 12, 0, 0);
+    print_row(b"\x01\x03.##", false, 5, 0, 1);
+    print_row(b"\x01\x03.##", false, 1, 0, 0);
+    print_row(b"\x01\x06##^^^^", false, 1, 0, 99);
+    print_row(b"\x01\x0e##############", false, 1, 0, 0);
+    print_row(b"\x01\x02#.", false, 1, 0, 0);
+}
+
+// Texts: the two rows of Known values, the other examples of the pages CONVERT and NUM (the last two as the manual's variable of 16
+// characters holds them), and a number whose exponent is outside its limits.
+fn texts() {
+    print_text(b"+24.37#JK");
+    print_text(b"98.7+53.6");
+    print_text(b"1234");
+    print_text(b"123A5           ");
+    print_text(b"12345           ");
+    print_text(b"12E99");
+}
+
+// All rows.
 fn main() {
-    print_row(b"###", false, 12195, 0, 3);
-    print_row(b"+##.##", false, 2439, 0, 2);
-    print_row(b"-#.##^^^^", false, 12195, 0, 3);
-    print_row(b"####.#####", false, 12195, 0, 3);
-    print_row(b"+#", true, 3, 0, 1);
-    print_row(b"##", false, 9999, 0, 2);
-    print_row(b"##", false, 1, 2, 0);
-    print_row(b"+#.#^^^^", false, 5, 0, 2);
-    print_row(b"#.#^^^^", false, 5, 0, 2);
-    print_row(b"##", true, 12, 0, 0);
-    print_row(b"##", false, 1234, 0, 0);
-    print_row(b".##", false, 5, 0, 1);
-    print_row(b".##", false, 1, 0, 0);
-    print_row(b"##^^^^", false, 1, 0, 99);
-    print_row(b"##############", false, 1, 0, 0);
-    print_row(b"#.", false, 1, 0, 0);
+    known_values();
+    texts();
 }

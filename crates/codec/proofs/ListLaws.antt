@@ -1,0 +1,48 @@
+-- Laws of lists that arrays hold. Assumes nothing.
+use Prim.Native.Nat.{ℕ, zero, suc, _+_, _-_, _<_, _≤_}
+use mathlib.Core.Path.{_≡_, refl, ap, _∙_}
+use mathlib.Core.List.{List, [], _∷_, _++_}
+use native.Mathlib.Omega.{arith}
+use lib.Seq.{getD-append-add}
+use lib.ListN.{List·getD-append, length, getD, set}
+use Rattle.codec.specs.Lists.{filled}
+
+module _ {A : Type 0} (d : A) where
+  -- an array has its length
+  pub filled-length : (n : ℕ) (xs : List A) → length (filled n d xs) ≡ n
+  unfolding filled
+  filled-length zero xs = refl
+  filled-length (suc n) [] = ap suc (filled-length n [])
+  filled-length (suc n) (x ∷ xs) = ap suc (filled-length n xs)
+
+  -- an element of the array is the list's, and the default behind its end
+  pub filled-at : (n : ℕ) (xs : List A) (i : ℕ) (e : A) → i < n → getD (filled n d xs) i e ≡ getD xs i d
+  unfolding filled
+  filled-at zero xs i e h = absurd (omega arith)
+  filled-at (suc n) [] zero e h = refl
+  filled-at (suc n) [] (suc i) e h = filled-at n [] i e (omega arith)
+  filled-at (suc n) (x ∷ xs) zero e h = refl
+  filled-at (suc n) (x ∷ xs) (suc i) e h = filled-at n xs i e (omega arith)
+
+  -- the element behind a list's last, set in the array
+  pub filled-set : (n : ℕ) (xs : List A) (x : A) → length xs < n → set (filled n d xs) (length xs) x ≡ filled n d (xs ++ x ∷ [])
+  unfolding filled
+  filled-set zero xs x h = absurd (omega arith)
+  filled-set (suc n) [] x h = refl
+  filled-set (suc n) (y ∷ xs) x h = ap (λ (l : List A). y ∷ l) (filled-set n xs x (omega arith))
+
+  -- a list of the array's length fills it
+  pub filled-same : (xs : List A) → filled (length xs) d xs ≡ xs
+  unfolding filled
+  filled-same [] = refl
+  filled-same (x ∷ xs) = ap (λ (l : List A). x ∷ l) (filled-same xs)
+
+-- an element of two lists put together, before the seam
+pub getD-before : (xs ys : List ℕ) (n i : ℕ) → length xs ≡ n → i < n → getD (xs ++ ys) i 0 ≡ getD xs i 0
+getD-before xs ys n i e h = List·getD-append xs ys 0 i (omega arith)
+
+-- and behind it
+pub getD-behind : (xs ys : List ℕ) (n i : ℕ) → length xs ≡ n → n ≤ i → getD (xs ++ ys) i 0 ≡ getD ys (i - n) 0
+getD-behind xs ys n i e h =
+    let place : i ≡ length xs + (i - n) = omega arith in
+    ap (λ (k : ℕ). getD (xs ++ ys) k 0) place ∙ getD-append-add xs ys (i - n) 0

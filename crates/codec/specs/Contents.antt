@@ -1,0 +1,137 @@
+-- Document 01, Record file: the table of contents. A byte with the count of columns, then per column a length byte and the image.
+use Prim.Native.Nat.{ℕ, zero, suc, _+_, _/_, _%_, _<_, _≤_}
+use mathlib.Core.List.{List, [], _∷_}
+use mathlib.Core.Bool.{Bool, true, false, _&&_}
+use lib.ListN.{length, take, drop}
+use lib.Dec.{ltb, leb, eqb}
+use Rattle.decimal.specs.declared.image.Sign.{Sign}
+use Rattle.decimal.specs.declared.image.Sign.the-variants.{Unsigned, Plus, Minus}
+use Rattle.decimal.specs.declared.image.Image.{Image}
+use Rattle.decimal.specs.Answer.{Answer, done, refused, _then_, pick}
+use Rattle.decimal.specs.Digits.{precision}
+use Rattle.decimal.specs.Image.{hashes, readImage}
+use Rattle.codec.specs.declared.contents.Contents.{Contents}
+use Rattle.codec.specs.declared.contents.ContentsAnswer.the-variants as gives
+use Rattle.codec.specs.declared.contents.ColumnAnswer.{ColumnAnswer}
+use Rattle.codec.specs.declared.contents.ColumnAnswer.the-variants as reads
+use Rattle.codec.specs.Lists.{filled}
+
+-- a contents is 1 to 16 images
+abbrev pub maxColumns : ℕ
+maxColumns = 16
+
+-- The size of a column: the sign half if the image has a sign, the n digits, two digits of |x| if it is exponential, and a zero half
+-- if that count is odd.
+
+abbrev pub signCount : Sign → ℕ
+signCount Unsigned = 0
+signCount Plus = 1
+signCount Minus = 1
+
+abbrev pub exponentCount : Bool → ℕ
+exponentCount true = 2
+exponentCount false = 0
+
+-- the halves before the padding
+abbrev pub halfCount : Image → ℕ
+halfCount im = signCount (im .sign) + (hashes im + exponentCount (im .exponential))
+
+-- the zero halves that fill the last byte: one if the count is odd
+abbrev pub padCount : Image → ℕ
+padCount im = halfCount im % 2
+
+-- each column fills whole bytes
+unfoldable pub columnSize : Image → ℕ
+columnSize im = (halfCount im + padCount im) / 2
+
+unfoldable pub bodySize : List Image → ℕ
+bodySize [] = 0
+bodySize (im ∷ ims) = columnSize im + bodySize ims
+
+-- an image that a contents can have: 1 to 13 # signs
+pub record Checked (im : Image) : Type 0 where
+  pub nonempty : 0 < hashes im
+  pub fits : hashes im ≤ precision
+
+pub data AllChecked : List Image → Type 0 where
+  none : AllChecked []
+  more : {im : Image} {ims : List Image} → Checked im → AllChecked ims → AllChecked (im ∷ ims)
+
+-- Reading.
+
+-- a column at the front of bytes: 11 where the bytes end inside it, then 1 and 2 for its image
+unfoldable pub readColumn : ℕ → List ℕ → Answer Image
+readColumn column [] = refused 11 0
+readColumn column (n ∷ bytes) = pick (ltb (length bytes) n) (refused 11 0) (readImage column (take n bytes))
+
+-- how many bytes a column takes
+unfoldable pub columnLength : List ℕ → ℕ
+columnLength [] = 0
+columnLength (n ∷ bytes) = suc n
+
+-- a column of a contents: its image, and the place behind it
+pub record Column : Type 0 where
+  pub image : Image
+  pub next : ℕ
+
+-- the column whose length byte stands at a place of bytes
+unfoldable pub columnAt : ℕ → ℕ → List ℕ → Answer Column
+columnAt column place bytes =
+    readColumn column (drop place bytes) then λ im. done (record { image = im; next = place + columnLength (drop place bytes) })
+
+-- each case of the code's answer
+abbrev pub columnMeaning : ColumnAnswer → Answer Column
+columnMeaning (reads.Column image next) = done (record { image = image; next = next })
+columnMeaning (reads.Refused r) = refused (r .number) (r .place)
+
+-- the images of so many columns, from the left
+unfoldable pub readColumns : ℕ → ℕ → List ℕ → Answer (List Image)
+readColumns zero column bytes = done []
+readColumns (suc left) column bytes =
+    readColumn column bytes then λ im.
+    (readColumns left (suc column) (drop (columnLength bytes) bytes) then λ ims. done (im ∷ ims))
+
+-- and how many bytes they take
+unfoldable pub columnsLength : ℕ → List ℕ → ℕ
+columnsLength zero bytes = 0
+columnsLength (suc left) bytes = columnLength bytes + columnsLength left (drop (columnLength bytes) bytes)
+
+-- a table of contents: its images, and its own length in bytes
+pub record Table : Type 0 where
+  pub images : List Image
+  pub size : ℕ
+
+-- a contents at the front of bytes: 11 where there is none, 10 for the count, then the columns from the left
+unfoldable pub readContents : List ℕ → Answer Table
+readContents [] = refused 11 0
+readContents (count ∷ bytes) =
+    pick (leb 1 count && leb count maxColumns)
+    (readColumns count 0 bytes then λ ims. done (record { images = ims; size = suc (columnsLength count bytes) }))
+    (refused 10 0)
+
+-- a contents lent alone: 11 where bytes go on behind it
+unfoldable pub readAlone : List ℕ → Answer Table
+readAlone bytes = readContents bytes then λ table. pick (eqb (table .size) (length bytes)) (done table) (refused 11 0)
+
+-- the image in the code's array behind the last column
+abbrev pub noImage : Image
+noImage = record { sign = Unsigned; integer = 0; fraction = 0; exponential = false }
+
+-- the code's answer, of each answer
+unfoldable pub contentsOf : Answer Table → Contents
+contentsOf (done table) =
+    record {
+      answer = gives.Read;
+      images = filled maxColumns noImage (table .images);
+      count = length (table .images);
+      size = table .size;
+      body = bodySize (table .images);
+    }
+contentsOf (refused number place) =
+    record {
+      answer = gives.Refused (record { number = number; place = place });
+      images = filled maxColumns noImage [];
+      count = 0;
+      size = 0;
+      body = 0;
+    }

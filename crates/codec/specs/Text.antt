@@ -1,0 +1,202 @@
+-- Document 01, Alpha text, second paragraph: text numbers.
+use Prim.Native.Nat.{ℕ, zero, suc, _+_, _-_, _*_, _^_, _≤_}
+use mathlib.Core.Path.{_≡_}
+use mathlib.Core.List.{List, [], _∷_, _++_}
+use mathlib.Core.Bool.{Bool, true, false, _&&_}
+use lib.ListN.{length, take, drop}
+use lib.Dec.{ltb, leb, eqb}
+use Rattle.decimal.specs.declared.image.Sign.{Sign}
+use Rattle.decimal.specs.declared.image.Sign.the-variants.{Unsigned, Plus, Minus}
+use Rattle.decimal.specs.declared.number.Number.{Number}
+use Rattle.decimal.specs.Answer.{Answer, refused, pick}
+use Rattle.decimal.specs.Digits.{precision, Digits, valueOf}
+use Rattle.decimal.specs.Number.{exponentLimit, scaledNumber}
+use Rattle.decimal.specs.Image.{pointByte, signBytes, times, signOf}
+use Rattle.codec.specs.Alpha.{blankByte, exponentByte, zeroByte, digitBytes}
+
+-- The form: blanks, an optional sign, 1 to 13 digits with at most one point before, among or after them, optionally E with an optional
+-- sign and one or two digits, blanks.
+
+-- no point, or a point and the digits behind it
+pub data PointPart : Type 0 where
+  noPoint : PointPart
+  point : List ℕ → PointPart
+
+-- no exponent, or E with a sign and digits
+pub data ExponentPart : Type 0 where
+  noExponent : ExponentPart
+  exponent : Sign → List ℕ → ExponentPart
+
+-- the parts of a text number, digits as numbers; the sign Unsigned is no sign
+pub record TextParts : Type 0 where
+  pub before : ℕ
+  pub sign : Sign
+  pub integer : List ℕ
+  pub fraction : PointPart
+  pub power : ExponentPart
+  pub behind : ℕ
+
+unfoldable pub fractionDigits : PointPart → List ℕ
+fractionDigits noPoint = []
+fractionDigits (point ds) = ds
+
+-- all digits, in order
+abbrev pub allDigitsOf : TextParts → List ℕ
+allDigitsOf t = t .integer ++ fractionDigits (t .fraction)
+
+unfoldable pub pointBytes : PointPart → List ℕ
+pointBytes noPoint = []
+pointBytes (point ds) = pointByte ∷ digitBytes ds
+
+unfoldable pub powerBytes : ExponentPart → List ℕ
+powerBytes noExponent = []
+powerBytes (exponent sign ds) = exponentByte ∷ (signBytes sign ++ digitBytes ds)
+
+-- the text of the parts
+unfoldable pub textBytes : TextParts → List ℕ
+textBytes t =
+    times (t .before) blankByte
+    ++ (signBytes (t .sign)
+    ++ (digitBytes (t .integer) ++ (pointBytes (t .fraction) ++ (powerBytes (t .power) ++ times (t .behind) blankByte))))
+
+-- one or two digits of an exponent
+unfoldable pub PowerLegal : ExponentPart → Type 0
+PowerLegal noExponent = Unit {0}
+PowerLegal (exponent sign ds) = Digits ds × ((1 ≤ length ds) × (length ds ≤ 2))
+
+pub record Legal (t : TextParts) : Type 0 where
+  pub digits : Digits (allDigitsOf t)
+  pub some : 1 ≤ length (allDigitsOf t)
+  pub few : length (allDigitsOf t) ≤ precision
+  pub powers : PowerLegal (t .power)
+
+-- bytes have the form of a text number, with these parts
+pub record HasForm (bytes : List ℕ) (t : TextParts) : Type 0 where
+  pub legal : Legal t
+  pub written : bytes ≡ textBytes t
+
+-- The value, in whole numbers: the digits × 10^exponent / 10^(digits behind the point).
+
+unfoldable pub isMinus : Sign → Bool
+isMinus Unsigned = false
+isMinus Plus = false
+isMinus Minus = true
+
+-- the exponent plus exponentLimit
+unfoldable pub powerValue : ExponentPart → ℕ
+powerValue noExponent = exponentLimit
+powerValue (exponent sign ds) = pick (isMinus sign) (exponentLimit - valueOf ds) (exponentLimit + valueOf ds)
+
+-- the number in normal form; digits all zero give zero, sign and exponent set aside; else 5 where e is outside its limits
+unfoldable pub textValue : TextParts → Answer Number
+textValue t =
+    scaledNumber 0 (isMinus (t .sign)) (valueOf (allDigitsOf t)) (powerValue (t .power))
+    (exponentLimit + length (fractionDigits (t .fraction)))
+
+-- The longest beginning that has the form.
+
+pub record LongestForm (bytes : List ℕ) (size : ℕ) : Type 0 where
+  pub inside : size ≤ length bytes
+  pub has-form : (size ≡ 0 → ⊥) → (t : TextParts) × HasForm (take size bytes) t
+  pub longest : (n : ℕ) (t : TextParts) → n ≤ length bytes → HasForm (take n bytes) t → n ≤ size
+
+-- Reading it: each part takes as many bytes as it can.
+
+-- how many blanks bytes begin with
+unfoldable pub blanksIn : List ℕ → ℕ
+blanksIn [] = 0
+blanksIn (b ∷ bs) = pick (eqb b blankByte) (suc (blanksIn bs)) 0
+
+abbrev pub isDigit : ℕ → Bool
+isDigit b = leb zeroByte b && ltb b (zeroByte + 10)
+
+-- the digits that bytes begin with, at most so many
+unfoldable pub digitsIn : ℕ → List ℕ → List ℕ
+digitsIn zero bs = []
+digitsIn (suc n) [] = []
+digitsIn (suc n) (b ∷ bs) = pick (isDigit b) ((b - zeroByte) ∷ digitsIn n bs) []
+
+-- the sign that bytes begin with
+unfoldable pub signIn : List ℕ → Sign
+signIn [] = Unsigned
+signIn (b ∷ bs) = signOf b
+
+abbrev pub signLength : Sign → ℕ
+signLength s = length (signBytes s)
+
+-- the point that bytes begin with, and at most so many digits behind it
+unfoldable pub pointIn : ℕ → List ℕ → PointPart
+pointIn most [] = noPoint
+pointIn most (b ∷ bs) = pick (eqb b pointByte) (point (digitsIn most bs)) noPoint
+
+-- the exponent behind E: none where no digit follows
+unfoldable pub powerOf : Sign → List ℕ → ExponentPart
+powerOf sign [] = noExponent
+powerOf sign (d ∷ ds) = exponent sign (d ∷ ds)
+
+unfoldable pub powerIn : List ℕ → ExponentPart
+powerIn [] = noExponent
+powerIn (b ∷ bs) = pick (eqb b exponentByte) (powerOf (signIn bs) (digitsIn 2 (drop (signLength (signIn bs)) bs))) noExponent
+
+-- the parts that bytes begin with; there may be no digit
+unfoldable pub partsIn : List ℕ → TextParts
+partsIn bytes =
+    let before : ℕ = blanksIn bytes in
+    let signed : List ℕ = drop before bytes in
+    let sign : Sign = signIn signed in
+    let digits : List ℕ = drop (signLength sign) signed in
+    let integer : List ℕ = digitsIn precision digits in
+    let pointed : List ℕ = drop (length integer) digits in
+    let fraction : PointPart = pointIn (precision - length integer) pointed in
+    let powered : List ℕ = drop (length (pointBytes fraction)) pointed in
+    let power : ExponentPart = powerIn powered in
+    let behind : ℕ = blanksIn (drop (length (powerBytes power)) powered) in
+    record { before = before; sign = sign; integer = integer; fraction = fraction; power = power; behind = behind }
+
+-- the length of the longest beginning that has the form, 0 if none
+unfoldable pub legalLength : List ℕ → ℕ
+legalLength bytes = pick (eqb (length (allDigitsOf (partsIn bytes))) 0) 0 (length (textBytes (partsIn bytes)))
+
+-- the number of the longest beginning that has the form: 8 if there is none, 5 where e is outside its limits
+unfoldable pub beginningValue : List ℕ → Answer Number
+beginningValue bytes = pick (eqb (legalLength bytes) 0) (refused 8 0) (textValue (partsIn bytes))
+
+-- a whole text: 8 where it has not the form, ahead of 5
+unfoldable pub convertText : List ℕ → Answer Number
+convertText bytes = pick (eqb (legalLength bytes) (length bytes)) (beginningValue bytes) (refused 8 0)
+
+-- What the code's helpers ask and find.
+
+-- a whole number of so many digits fits the code's 64 bits
+abbrev pub heldDigits : ℕ
+heldDigits = 18
+
+-- a value and so many digits behind it are held
+abbrev pub Held : ℕ → ℕ → Type 0
+Held start most = (start + 1) * 10 ^ most ≤ 10 ^ heldDigits
+
+-- the value of digits that stand behind a value
+abbrev pub behindValue : ℕ → List ℕ → ℕ
+behindValue start ds = start * 10 ^ length ds + valueOf ds
+
+-- the digits that bytes begin with, at most so many: their count, and the value of them behind a value
+pub record RunFound (bytes : List ℕ) (most start value count : ℕ) : Type 0 where
+  pub counted : count ≡ length (digitsIn most bytes)
+  pub valued : value ≡ behindValue start (digitsIn most bytes)
+
+-- the same of the digits behind a point, with the count of the bytes
+pub record FractionFound (bytes : List ℕ) (most start value count used : ℕ) : Type 0 where
+  pub counted : count ≡ length (fractionDigits (pointIn most bytes))
+  pub valued : value ≡ behindValue start (fractionDigits (pointIn most bytes))
+  pub spanned : used ≡ length (pointBytes (pointIn most bytes))
+
+-- the exponent that bytes begin with: its value, which is within its limits, and the count of its bytes
+pub record PowerFound (bytes : List ℕ) (up used : ℕ) : Type 0 where
+  pub small : up ≤ 2 * exponentLimit
+  pub valued : up ≡ powerValue (powerIn bytes)
+  pub spanned : used ≡ length (powerBytes (powerIn bytes))
+
+-- the longest beginning that has the form: its length and its number
+pub record TextFound (bytes : List ℕ) (used : ℕ) (number : Answer Number) : Type 0 where
+  pub spanned : used ≡ legalLength bytes
+  pub valued : number ≡ beginningValue bytes

@@ -1,0 +1,257 @@
+// Text numbers: the legal length of a text, and converting a whole text (document 01: Alpha text, second paragraph).
+ghost use mathlib.Core.Path.{_≡_};
+ghost use Prim.Native.Nat.{_≤_};
+ghost use lib.ListN.{length, drop};
+ghost use Rattle.decimal.specs.Number.{numberMeaning};
+ghost use Rattle.codec.specs.Text.{
+  isMinus,
+  legalLength,
+  convertText,
+  blanksIn,
+  isDigit,
+  signIn,
+  signLength,
+  Held,
+  RunFound,
+  FractionFound,
+  PowerFound,
+  TextFound,
+};
+use decimal::EXPONENT_LIMIT;
+use decimal::Number;
+use decimal::NumberAnswer;
+use decimal::PRECISION;
+use decimal::Refusal;
+use decimal::Sign;
+
+// Refusal 8: not a text number.
+pub const NOT_TEXT: u8 = 8;
+
+// The most digits of an exponent.
+const EXPONENT_DIGITS: usize = 2;
+
+// The longest beginning of a text that is a text number: its length, and its number, 5, or 8 where there is none and the length is 0.
+pub struct Reading {
+    pub used: usize,
+    pub number: NumberAnswer,
+}
+
+// Digits that were read, as a whole number, and how many they are.
+struct Run {
+    value: u64,
+    count: usize,
+}
+
+// A point and digits behind it, or nothing: the whole number that all digits now make, the digits behind the point, the bytes used.
+struct Fraction {
+    value: u64,
+    count: usize,
+    used: usize,
+}
+
+// An exponent plus EXPONENT_LIMIT, and the bytes used; 0 bytes are no exponent.
+struct Power {
+    up: usize,
+    used: usize,
+}
+
+// How many blanks stand from a place on.
+fn blanks(text: &[u8], at: usize) -> usize
+    requires { ⌜ at ≤ length (now text) ⌝ }
+    ensures { λ r. ⌜ r ≡ blanksIn (drop at (now (text .entry))) ⌝ }
+{
+    let mut end = at;
+    while end < text.len() {
+        let byte = text[end];
+        if byte != b' ' {
+            return end - at;
+        }
+        end += 1;
+    }
+    end - at
+}
+
+// The sign that stands at a place.
+fn sign_at(text: &[u8], at: usize) -> Sign
+    ensures { λ r. ⌜ r ≡ signIn (drop at (now (text .entry))) ⌝ }
+{
+    if text.len() <= at {
+        return Sign::Unsigned;
+    }
+    let byte = text[at];
+    match byte {
+        b'+' => Sign::Plus,
+        b'-' => Sign::Minus,
+        _ => Sign::Unsigned,
+    }
+}
+
+// The count of bytes of a sign.
+fn sign_length(sign: Sign) -> usize
+    ensures { λ r. ⌜ r ≡ signLength sign ⌝ }
+{
+    match sign {
+        Sign::Unsigned => 0,
+        Sign::Plus => 1,
+        Sign::Minus => 1,
+    }
+}
+
+// Whether a sign is a minus.
+fn is_minus(sign: Sign) -> bool
+    ensures { λ r. ⌜ r ≡ isMinus sign ⌝ }
+{
+    match sign {
+        Sign::Unsigned => false,
+        Sign::Plus => false,
+        Sign::Minus => true,
+    }
+}
+
+// Whether a byte is a digit.
+fn is_digit(byte: u8) -> bool
+    ensures { λ r. ⌜ r ≡ isDigit byte ⌝ }
+{
+    if byte < b'0' {
+        return false;
+    }
+    byte <= b'9'
+}
+
+// At most so many digits from a place on, behind a value already read.
+fn digit_run(text: &[u8], at: usize, most: usize, start: u64) -> Run
+    requires { ⌜ (at ≤ length (now text)) × Held start most ⌝ }
+    ensures { λ r. ⌜ RunFound (drop at (now (text .entry))) most start (r .value) (r .count) ⌝ }
+{
+    let mut value = start;
+    let mut count = 0;
+    while count < most {
+        if text.len() <= at + count {
+            return Run { value, count };
+        }
+        let byte = text[at + count];
+        if !is_digit(byte) {
+            return Run { value, count };
+        }
+        value = value * 10 + (byte - b'0') as u64;
+        count += 1;
+    }
+    Run { value, count }
+}
+
+// A point at a place and at most so many digits behind it, which go on a value already read.
+fn fraction_at(text: &[u8], at: usize, most: usize, start: u64) -> Fraction
+    requires { ⌜ (at ≤ length (now text)) × Held start most ⌝ }
+    ensures { λ r. ⌜ FractionFound (drop at (now (text .entry))) most start (r .value) (r .count) (r .used) ⌝ }
+{
+    if text.len() <= at {
+        return Fraction {
+            value: start,
+            count: 0,
+            used: 0,
+        };
+    }
+    let byte = text[at];
+    if byte != b'.' {
+        return Fraction {
+            value: start,
+            count: 0,
+            used: 0,
+        };
+    }
+    let run = digit_run(text, at + 1, most, start);
+    Fraction {
+        value: run.value,
+        count: run.count,
+        used: run.count + 1,
+    }
+}
+
+// The exponent at a place: E, an optional sign, and one or two digits; nothing where no digit follows.
+fn power_at(text: &[u8], at: usize) -> Power
+    requires { ⌜ at ≤ length (now text) ⌝ }
+    ensures { λ r. ⌜ PowerFound (drop at (now (text .entry))) (r .up) (r .used) ⌝ }
+{
+    let none = Power {
+        up: EXPONENT_LIMIT,
+        used: 0,
+    };
+    if text.len() <= at {
+        return none;
+    }
+    let byte = text[at];
+    if byte != b'E' {
+        return none;
+    }
+    let sign = sign_at(text, at + 1);
+    let signs = sign_length(sign);
+    let run = digit_run(text, at + 1 + signs, EXPONENT_DIGITS, 0);
+    if run.count == 0 {
+        return none;
+    }
+    let size = run.value as usize;
+    let used = 1 + signs + run.count;
+    if is_minus(sign) {
+        return Power {
+            up: EXPONENT_LIMIT - size,
+            used,
+        };
+    }
+    Power {
+        up: EXPONENT_LIMIT + size,
+        used,
+    }
+}
+
+// The longest beginning of a text that is a text number, and its number.
+pub(crate) fn read_text(text: &[u8]) -> Reading
+    ensures { λ r. ⌜ TextFound (now (text .entry)) (r .used) (numberMeaning (r .number)) ⌝ }
+{
+    let before = blanks(text, 0);
+    let sign = sign_at(text, before);
+    let start = before + sign_length(sign);
+    let integer = digit_run(text, start, PRECISION, 0);
+    let pointed = start + integer.count;
+    let fraction = fraction_at(text, pointed, PRECISION - integer.count, integer.value);
+    if integer.count + fraction.count == 0 {
+        return Reading {
+            used: 0,
+            number: NumberAnswer::Refused(Refusal {
+                number: NOT_TEXT,
+                place: 0,
+            }),
+        };
+    }
+    let powered = pointed + fraction.used;
+    let power = power_at(text, powered);
+    let end = powered + power.used;
+    let used = end + blanks(text, end);
+    let up = power.up as u16;
+    let down = (EXPONENT_LIMIT + fraction.count) as u16;
+    Reading {
+        used,
+        number: Number::from_scaled(is_minus(sign), fraction.value, up, down, 0),
+    }
+}
+
+// The length of the longest beginning of a text that has the form of a text number, 0 if none.
+pub fn legal_length(text: &[u8]) -> usize
+    ensures { λ r. ⌜ r ≡ legalLength (now (text .entry)) ⌝ }
+{
+    let reading = read_text(text);
+    reading.used
+}
+
+// The number of a whole text: refused with 8 where it has not the form, with 5 where its exponent is outside its limits.
+pub fn convert(text: &[u8]) -> NumberAnswer
+    ensures { λ r. ⌜ numberMeaning r ≡ convertText (now (text .entry)) ⌝ }
+{
+    let reading = read_text(text);
+    if reading.used == text.len() {
+        return reading.number;
+    }
+    NumberAnswer::Refused(Refusal {
+        number: NOT_TEXT,
+        place: 0,
+    })
+}

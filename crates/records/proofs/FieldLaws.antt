@@ -1,0 +1,407 @@
+-- Laws of fields that are filled: the bytes written one by one, the # signs of a field, and the length of what an element prints.
+-- Assumes nothing.
+use Prim.Native.Nat.{ℕ, zero, suc, _+_, _-_, _<_, _≤_}
+use native.Mathlib.Omega.{arith}
+use native.Mathlib.Numerals.{add-one}
+use mathlib.Core.Path.{_≡_, refl, ap, sym, _∙_}
+use mathlib.Core.List.{List, [], _∷_, _++_, append-assoc, append-nil}
+use mathlib.Core.Logic.{⊎-elim}
+use mathlib.Core.Bool.{Bool, true, false, not, _&&_}
+use lib.Dec.{ltb, eqb}
+use lib.ListN.{length, take, drop, getD, set, length-drop, drop-of-length-le}
+use lib.Seq.{paste, paste-suc, drop-cons, drop-drop, take-length}
+use borrow.Author.Tests.{eq-eqb, ne-eqb, lt-leb}
+use Rattle.decimal.specs.declared.image.Sign.{Sign}
+use Rattle.decimal.specs.declared.image.Sign.the-variants.{Unsigned, Plus, Minus}
+use Rattle.decimal.specs.declared.image.Image.{Image}
+use Rattle.decimal.specs.declared.number.Number.{Number}
+use Rattle.decimal.specs.Answer.{Answer, done, refused, _then_, pick}
+use Rattle.decimal.specs.Digits.{digitsOf}
+use Rattle.decimal.specs.Image.{hashByte, pointByte, commaByte, hashes, times, signBytes, fractionBytes, upBytes, imageBytes, scannedImage, IsImage, readImage}
+use Rattle.decimal.specs.Truncation.{Truncated, truncation, checkedOnly}
+use Rattle.decimal.proofs.DigitLaws.{digit-below, digits-are-digits, le-or-lt}
+use Rattle.decimal.proofs.ImageLaws.{reads-image}
+use Rattle.codec.specs.Lists.{storedIn}
+use Rattle.codec.specs.Body.{written}
+use Rattle.codec.specs.Alpha.{alphaText, alphaOf, blankByte, zeroByte}
+use Rattle.codec.proofs.ListLaws.{filled-length}
+use Rattle.codec.proofs.AlphaLaws.{text-length, image-length, alpha-done}
+use Rattle.records.specs.declared.fields.Fill.{Fill}
+use Rattle.records.specs.declared.fields.Element.{Element}
+use Rattle.records.specs.declared.fields.Element.the-variants as element
+use Rattle.records.specs.Scanning.{Field, runBytes, fieldBytes, total, IsField}
+use Rattle.records.specs.Fields.{nextDigit, suppressed, signByteOf, fillByte, fillNext, fillBytes, nothingFilled, shownIn, numberIn, orField, spilledBy}
+use Rattle.records.specs.Fields.{textIn, elementBytes, FieldReady, hashCount}
+use Rattle.records.specs.Printing.{checkElement}
+use Rattle.records.proofs.FieldTheorem.{field-image}
+
+-- Bytes written one by one.
+
+-- one more byte is written
+pub paste-turn :
+    (text first now : List ℕ) (start k : ℕ) {byte : ℕ}
+    → start + length text ≤ length first
+    → k < length text
+    → now ≡ paste first start text k
+    → byte ≡ getD text k 0
+    → set now (start + k) byte ≡ paste first start text (k + 1)
+paste-turn text first now start k room h e same =
+    rw (e, same, add-one k) (paste-suc first start text k 0 (omega arith) h)
+
+-- a byte of a list is the same for another default
+pub getD-same : (l : List ℕ) (j d e : ℕ) → j < length l → getD l j d ≡ getD l j e
+getD-same [] j d e h = absurd (omega arith)
+getD-same (x ∷ l) zero d e h = refl
+getD-same (x ∷ l) (suc j) d e h = getD-same l j d e (omega arith)
+
+-- and the default behind its end
+pub getD-behind : (l : List ℕ) (j d : ℕ) → length l ≤ j → d ≡ getD l j d
+getD-behind [] j d h = refl
+getD-behind (x ∷ l) zero d h = absurd (omega arith)
+getD-behind (x ∷ l) (suc j) d h = getD-behind l j d (omega arith)
+
+-- bytes stored in the part of a buffer from a place on, which is put back
+pub stored-part :
+    (b : List ℕ) (start k : ℕ) (s part : List ℕ)
+    → start ≤ length b
+    → k ≡ length b - start
+    → part ≡ storedIn (done s) (take k (drop start b))
+    → take start b ++ (part ++ drop k (drop start b)) ≡ written b start s
+unfolding storedIn written
+stored-part b start k s part h e stored =
+    let size : length (drop start b) ≡ k = length-drop start b ∙ sym e in
+    let none : drop k (drop start b) ≡ [] = drop-of-length-le (drop start b) {i = k} (omega arith) in
+    let all : take k (drop start b) ≡ drop start b = ap (λ (n : ℕ). take n (drop start b)) (sym size) ∙ take-length (drop start b) in
+    let tail : drop (length s) (take k (drop start b)) ≡ drop (start + length s) b =
+    ap (drop (length s)) all ∙ drop-drop (length s) start b in
+    ap (λ (l : List ℕ). take start b ++ (part ++ l)) none
+    ∙ ap (λ (l : List ℕ). take start b ++ l) (append-nil part ∙ stored ∙ ap (λ (l : List ℕ). s ++ l) tail)
+    ∙ sym (append-assoc (take start b) s (drop (start + length s) b))
+
+-- Digits.
+
+-- a digit is below ten
+pub next-digit-below : (im : Image) (t : Truncated) (fill : Fill) → nextDigit im t fill < 10
+next-digit-below im t fill = digit-below (digitsOf (hashes im) (t .whole)) (digits-are-digits (hashes im) (t .whole)) (fill .used)
+
+-- whether it is a leading zero that becomes a blank, as the code finds
+pub suppressed-by :
+    (im : Image) (t : Truncated) (fill : Fill) {digit : ℕ} {r : Bool}
+    → digit ≡ nextDigit im t fill
+    → r ≡ (not (fill .shown) && (eqb digit 0 && ltb (fill .used + 1) (im .integer)))
+    → suppressed im t fill ≡ r
+suppressed-by im t fill e h = sym (h ∙ ap (λ (d : ℕ). not (fill .shown) && (eqb d 0 && ltb (fill .used + 1) (im .integer))) e)
+
+-- What stands for a byte, and what was filled then.
+
+module _ (im : Image) (t : Truncated) (fill : Fill) {b : ℕ} where
+  -- a zero that is not shown
+  pub fill-blank : b ≡ hashByte → suppressed im t fill ≡ true → blankByte ≡ fillByte im t fill b
+  unfolding fillByte
+  fill-blank e h = sym (ap (fillByte im t fill) e ∙ ap (λ (c : Bool). pick c blankByte (zeroByte + nextDigit im t fill)) h)
+
+  -- a digit
+  pub fill-digit : b ≡ hashByte → suppressed im t fill ≡ false → zeroByte + nextDigit im t fill ≡ fillByte im t fill b
+  unfolding fillByte
+  fill-digit e h = sym (ap (fillByte im t fill) e ∙ ap (λ (c : Bool). pick c blankByte (zeroByte + nextDigit im t fill)) h)
+
+  -- a comma
+  pub fill-comma : b ≡ commaByte → pick (fill .shown) commaByte blankByte ≡ fillByte im t fill b
+  unfolding fillByte
+  fill-comma e = sym (ap (fillByte im t fill) e)
+
+  -- the point
+  pub fill-point : b ≡ pointByte → pointByte ≡ fillByte im t fill b
+  unfolding fillByte
+  fill-point e = sym (ap (fillByte im t fill) e)
+
+  -- the sign
+  pub fill-sign : (b ≡ hashByte → ⊥) → (b ≡ commaByte → ⊥) → (b ≡ pointByte → ⊥) → signByteOf b (t .negative) ≡ fillByte im t fill b
+  unfolding fillByte
+  fill-sign h k p = rw (ne-eqb b hashByte h, ne-eqb b commaByte k, ne-eqb b pointByte p)
+
+  -- behind a #
+  pub next-hash : b ≡ hashByte → record { shown = not (suppressed im t fill); used = fill .used + 1 } ≡ fillNext im t fill b
+  unfolding fillNext
+  next-hash e = sym (ap (fillNext im t fill) e)
+
+  -- behind the point
+  pub next-point : b ≡ pointByte → record { shown = true; used = fill .used } ≡ fillNext im t fill b
+  unfolding fillNext
+  next-point e = sym (ap (fillNext im t fill) e)
+
+  -- behind any other byte
+  pub next-other : (b ≡ hashByte → ⊥) → (b ≡ pointByte → ⊥) → fill ≡ fillNext im t fill b
+  unfolding fillNext
+  next-other h p = rw (ne-eqb b hashByte h, ne-eqb b pointByte p)
+
+-- Filling.
+
+-- a filled field keeps its length
+pub fill-length : (im : Image) (t : Truncated) (fill : Fill) (bs : List ℕ) → length (fillBytes im t fill bs) ≡ length bs
+unfolding fillBytes
+fill-length im t fill [] = refl
+fill-length im t fill (b ∷ bs) = ap suc (fill-length im t (fillNext im t fill b) bs)
+
+-- the field is filled up to a byte: what is still to come, and the digits that are left for it
+pub record Filling (im : Image) (t : Truncated) (field : List ℕ) (fill : Fill) (j : ℕ) : Type 0 where
+  pub inside : j ≤ length field
+  pub rest : drop j (fillBytes im t nothingFilled field) ≡ fillBytes im t fill (drop j field)
+  pub left : fill .used + hashCount (drop j field) ≤ hashes im
+
+-- at the field's start
+pub filling-starts : (im : Image) (t : Truncated) (field : List ℕ) → hashCount field ≤ hashes im → Filling im t field nothingFilled 0
+filling-starts im t field h = record { inside = omega arith; rest = refl; left = omega arith }
+
+-- the # signs from a byte on
+count-cons : (field : List ℕ) (j : ℕ) → j < length field
+    → hashCount (drop j field) ≡ pick (eqb (getD field j 0) hashByte) 1 0 + hashCount (drop (suc j) field)
+unfolding hashCount
+count-cons field j h = ap hashCount (drop-cons field j 0 h)
+
+-- a part of one of two
+picked-used : (c : Bool) (x y : Fill) → pick {A = Fill} c x y .used ≡ pick c (x .used) (y .used)
+picked-used true x y = refl
+picked-used false x y = refl
+
+-- one digit more for a #
+picked-more : (c : Bool) (n : ℕ) → pick c (n + 1) n ≡ n + pick c 1 0
+picked-more true n = refl
+picked-more false n = omega arith
+
+-- the digits used behind a byte
+used-next : (im : Image) (t : Truncated) (fill : Fill) (b : ℕ) → fillNext im t fill b .used ≡ fill .used + pick (eqb b hashByte) 1 0
+unfolding fillNext
+used-next im t fill b = picked-used (eqb b hashByte) _ _ ∙ picked-more (eqb b hashByte) (fill .used)
+
+module _ {im : Image} {t : Truncated} {field : List ℕ} {fill : Fill} {j : ℕ} (f : Filling im t field fill j) (h : j < length field) where
+  -- what is still to come from a byte on
+  rest-cons :
+      drop j (fillBytes im t nothingFilled field)
+      ≡ fillByte im t fill (getD field j 0) ∷ fillBytes im t (fillNext im t fill (getD field j 0)) (drop (suc j) field)
+  unfolding fillBytes
+  rest-cons = f .rest ∙ ap (fillBytes im t fill) (drop-cons field j 0 h)
+
+  -- and of what is filled
+  whole-cons :
+      drop j (fillBytes im t nothingFilled field)
+      ≡ getD (fillBytes im t nothingFilled field) j 0 ∷ drop (suc j) (fillBytes im t nothingFilled field)
+  whole-cons = drop-cons (fillBytes im t nothingFilled field) j 0 (omega (arith, fill-length im t nothingFilled field))
+
+  -- the next byte
+  pub filling-byte : fillByte im t fill (getD field j 0) ≡ getD (fillBytes im t nothingFilled field) j 0
+  filling-byte = ap (λ (l : List ℕ). getD l 0 0) (sym rest-cons ∙ whole-cons)
+
+  -- a digit is left for a #
+  pub filling-hash : getD field j 0 ≡ hashByte → fill .used < hashes im
+  filling-hash e =
+      let one : _≡_ {A = ℕ} (pick (eqb (getD field j 0) hashByte) 1 0) 1 = rw (eq-eqb (getD field j 0) hashByte e) in
+      omega (arith, f .left, count-cons field j h)
+
+  -- one byte more
+  pub filling-turns : Filling im t field (fillNext im t fill (getD field j 0)) (j + 1)
+  filling-turns =
+      rw (add-one j)
+      (record {
+        inside = omega arith;
+        rest = ap (λ (l : List ℕ). drop 1 l) (sym whole-cons ∙ rest-cons);
+        left = omega (arith, f .left, count-cons field j h, used-next im t fill (getD field j 0));
+      })
+
+-- The # signs of a field.
+
+-- in two parts
+count-append : (xs ys : List ℕ) → hashCount (xs ++ ys) ≡ hashCount xs + hashCount ys
+unfolding hashCount
+count-append [] ys = omega arith
+count-append (b ∷ xs) ys = omega (arith, count-append xs ys)
+
+-- n # signs
+count-hashes : (n : ℕ) → hashCount (times n hashByte) ≡ n
+unfolding hashCount times
+count-hashes zero = refl
+count-hashes (suc n) = omega (arith, count-hashes n)
+
+-- a sign has none
+count-sign : (s : Sign) → hashCount (signBytes s) ≡ 0
+unfolding hashCount signBytes
+count-sign Unsigned = refl
+count-sign Plus = refl
+count-sign Minus = refl
+
+-- those of the runs
+count-runs : (ns : List ℕ) → hashCount (runBytes ns) ≡ total ns
+unfolding hashCount runBytes total
+count-runs [] = refl
+count-runs (n ∷ []) = omega (arith, count-hashes n)
+count-runs (n ∷ (m ∷ ns)) =
+    omega (arith, count-append (times n hashByte) (commaByte ∷ runBytes (m ∷ ns)), count-hashes n, count-runs (m ∷ ns))
+
+-- those behind the point
+count-fraction : (n : ℕ) → hashCount (fractionBytes n) ≡ n
+unfolding hashCount fractionBytes
+count-fraction zero = refl
+count-fraction (suc n) = omega (arith, count-hashes (suc n))
+
+-- the 5E bytes have none
+count-ups : (e : Bool) → hashCount (upBytes e) ≡ 0
+unfolding hashCount upBytes times
+count-ups true = refl
+count-ups false = refl
+
+-- those of a field's bytes
+count-field : (f : Field) → hashCount (fieldBytes f) ≡ total (f .runs) + f .fraction
+unfolding fieldBytes
+count-field f =
+    let runs = runBytes (f .runs) in
+    let behind = fractionBytes (f .fraction) in
+    let ups = upBytes (f .exponential) in
+    omega (
+      arith,
+      count-append (signBytes (f .sign)) (runs ++ (behind ++ ups)),
+      count-append runs (behind ++ ups),
+      count-append behind ups,
+      count-sign (f .sign),
+      count-runs (f .runs),
+      count-fraction (f .fraction),
+      count-ups (f .exponential),
+    )
+
+-- a field has as many # signs as the machine reads
+pub hash-count : {field : List ℕ} {f : Field} → IsField field f → hashCount field ≡ hashes (scannedImage field)
+hash-count {field} {f} is = ap hashCount (is .rendered) ∙ count-field f ∙ sym (ap hashes (field-image is))
+
+-- An exponential field is an image.
+
+-- one run at most is that many # signs
+run-hashes : (ns : List ℕ) → length ns ≤ 1 → runBytes ns ≡ times (total ns) hashByte
+unfolding runBytes total times
+run-hashes [] h = refl
+run-hashes (n ∷ []) h = let same : n ≡ n + 0 = omega arith in ap (λ (k : ℕ). times k hashByte) same
+run-hashes (n ∷ (m ∷ ns)) h = absurd (omega arith)
+
+-- it is the image that the machine reads
+pub exponential-image : {field : List ℕ} {f : Field} → IsField field f → scannedImage field .exponential ≡ true → IsImage field (scannedImage field)
+unfolding imageBytes fieldBytes
+exponential-image {field} {f} is e =
+    let same = field-image is in
+    let kind : f .exponential ≡ true = sym (ap (λ (im : Image). im .exponential) same) ∙ e in
+    let tail = fractionBytes (f .fraction) ++ upBytes (f .exponential) in
+    record {
+      rendered =
+          is .rendered
+          ∙ ap (λ (l : List ℕ). signBytes (f .sign) ++ (l ++ tail)) (run-hashes (f .runs) (is .plain kind))
+          ∙ sym (ap imageBytes same);
+      nonempty = omega (arith, is .nonempty, ap hashes same);
+    }
+
+-- it is read as an image
+pub exponential-read : {field : List ℕ} (ready : FieldReady field) → scannedImage field .exponential ≡ true → readImage 0 field ≡ done (scannedImage field)
+exponential-read ready e = reads-image 0 (exponential-image (ready .is-field) e) (ready .fits)
+
+-- What a number prints.
+
+-- its text, or the filled field
+shown-length : {field : List ℕ} {f : Field} → IsField field f → (t : Truncated) → length (shownIn field (scannedImage field) t) ≡ length field
+unfolding shownIn
+shown-length {field} is t = go (scannedImage field .exponential) refl
+  where
+    go : (e : Bool) → scannedImage field .exponential ≡ e
+        → length (pick e (alphaText (scannedImage field) t) (fillBytes (scannedImage field) t nothingFilled field)) ≡ length field
+    go true e =
+        text-length (scannedImage field) t
+        ∙ sym (ap length (exponential-image is e .rendered) ∙ image-length (scannedImage field))
+    go false e = fill-length (scannedImage field) t nothingFilled field
+
+-- its length
+number-length : {field : List ℕ} {f : Field} → IsField field f → (n : Number) → length (orField field (numberIn field n)) ≡ length field
+unfolding numberIn _then_ orField
+number-length {field} is n = go (truncation 0 (scannedImage field) n)
+  where
+    go : (a : Answer Truncated) → length (orField field (a then λ t. done (shownIn field (scannedImage field) t))) ≡ length field
+    go (done t) = shown-length is t
+    go (refused number place) = refl
+
+-- Published: an element prints as many bytes as the field has.
+pub element-length : {field : List ℕ} {f : Field} → IsField field f → (texts : List ℕ) (e : Element) → length (elementBytes texts field e) ≡ length field
+unfolding elementBytes textIn
+element-length is texts (element.Number n) = number-length is n
+element-length {field} is texts (element.Text start size) = filled-length blankByte (length field) (take size (drop start texts))
+
+-- Spilled or not.
+
+module _ (field : List ℕ) (n : Number) where
+  -- a number that is refused prints the field
+  pub number-refused : {number place : ℕ} → truncation 0 (scannedImage field) n ≡ refused number place → orField field (numberIn field n) ≡ field
+  unfolding numberIn _then_ orField
+  number-refused h =
+      ap (λ (a : Answer Truncated). orField field (a then λ t. done (shownIn field (scannedImage field) t))) h
+
+  -- any other is shown
+  pub number-shown : {t : Truncated} → truncation 0 (scannedImage field) n ≡ done t → orField field (numberIn field n) ≡ shownIn field (scannedImage field) t
+  unfolding numberIn _then_ orField
+  number-shown h =
+      ap (λ (a : Answer Truncated). orField field (a then λ t. done (shownIn field (scannedImage field) t))) h
+
+  -- in fixed point it fills the field
+  pub number-fixed :
+      {t : Truncated}
+      → truncation 0 (scannedImage field) n ≡ done t
+      → scannedImage field .exponential ≡ false
+      → orField field (numberIn field n) ≡ fillBytes (scannedImage field) t nothingFilled field
+  unfolding shownIn
+  number-fixed h e = number-shown h ∙ rw e
+
+  -- in exponential form it prints as alpha text
+  pub number-alpha :
+      {t : Truncated}
+      → truncation 0 (scannedImage field) n ≡ done t
+      → scannedImage field .exponential ≡ true
+      → orField field (numberIn field n) ≡ alphaText (scannedImage field) t
+  unfolding shownIn
+  number-alpha h e = number-shown h ∙ rw e
+
+  -- which is the text under the field as an image
+  pub number-alpha-of :
+      {t : Truncated}
+      → FieldReady field
+      → truncation 0 (scannedImage field) n ≡ done t
+      → scannedImage field .exponential ≡ true
+      → alphaOf field n ≡ done (orField field (numberIn field n))
+  number-alpha-of ready h e =
+      alpha-done field n (scannedImage field) (exponential-read ready e) h ∙ ap {B = Answer (List ℕ)} done (sym (number-alpha h e))
+
+  -- a number that fits is not spilled
+  pub spilled-not : done tt ≡ checkedOnly (truncation 0 (scannedImage field) n) → false ≡ eqb (spilledBy (numberIn field n)) 1
+  unfolding checkedOnly numberIn _then_ spilledBy
+  spilled-not h = go (truncation 0 (scannedImage field) n) h
+    where
+      go : (a : Answer Truncated) → done tt ≡ checkedOnly a
+          → false ≡ eqb (spilledBy (a then λ t. done (shownIn field (scannedImage field) t))) 1
+      go (done t) e = refl
+      go (refused number place) e = let z : _≡_ {A = ℕ} 0 1 = cc in absurd (omega arith)
+
+  -- a number that is refused is
+  pub spilled-is :
+      {number place : ℕ} → refused number place ≡ checkedOnly (truncation 0 (scannedImage field) n) → true ≡ eqb (spilledBy (numberIn field n)) 1
+  unfolding checkedOnly numberIn _then_ spilledBy
+  spilled-is {number} {place} h = go (truncation 0 (scannedImage field) n) h
+    where
+      go : (a : Answer Truncated) → refused number place ≡ checkedOnly a
+          → true ≡ eqb (spilledBy (a then λ t. done (shownIn field (scannedImage field) t))) 1
+      go (done t) e = let z : _≡_ {A = ℕ} 0 1 = cc in absurd (omega arith)
+      go (refused x y) e = refl
+
+-- What an element may be.
+
+-- a text that is not refused lies within its bytes
+pub text-inside : (room start size : ℕ) {e : Element} → e ≡ element.Text start size → checkElement room 0 e ≡ done tt → start + size ≤ room
+unfolding checkElement
+text-inside room start size is h =
+    ⊎-elim
+    (λ le. le)
+    (λ lt.
+    let more = rw (lt-leb (start + size) room lt) at (sym (ap (checkElement room 0) is) ∙ h) in
+    let z : _≡_ {A = ℕ} 0 1 = cc in
+    absurd (omega arith))
+    (le-or-lt (start + size) room)

@@ -1,0 +1,6 @@
+pub mod Scanning
+pub mod KnownFields
+pub mod Fields
+pub mod Printing
+pub mod Known
+pub mod Demand

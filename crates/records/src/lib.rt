@@ -1,0 +1,17 @@
+// Layer 3: print lines and record files (document 01: Print lines, Record file).
+mod fields;
+mod printing;
+mod scanning;
+
+pub use fields::Element;
+pub use fields::read_field;
+pub use printing::ELEMENTS;
+pub use printing::ForecastAnswer;
+pub use printing::LINE_LENGTH;
+pub use printing::NO_FIELD;
+pub use printing::PrintAnswer;
+pub use printing::TEXT_OUTSIDE;
+pub use printing::TOO_LONG;
+pub use printing::forecast;
+pub use printing::print;
+pub use scanning::scan;
