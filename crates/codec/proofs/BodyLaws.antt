@@ -31,8 +31,8 @@ use Rattle.codec.specs.declared.body.Numbers.{Numbers}
 use Rattle.codec.specs.declared.contents.Contents.{Contents}
 use Rattle.codec.specs.Lists.{filled, storedIn}
 use Rattle.codec.specs.Contents.{signCount, exponentCount, padCount, columnSize, bodySize, Checked, Table, readColumn, columnLength, readColumns, readContents, readAlone, maxColumns, noImage}
-use Rattle.codec.specs.Body.Packs.{none, one}
-use Rattle.codec.specs.Body.{exponentSize, signHalf, signHalves, exponentHalves, columnHalves, packHalves, columnBytes, packColumns, packList, bodyOf, within, packing, listOf, PacksUnder, Packs, heldBy, Held, written}
+use Rattle.codec.specs.Body.AllPack.{none, one}
+use Rattle.codec.specs.Body.{exponentSize, signHalf, signHalves, exponentHalves, columnHalves, packHalves, columnBytes, packColumns, packList, bodyOf, within, packing, listOf, PackConditions, PacksUnder, AllPack, heldBy, Held, written}
 use Rattle.codec.proofs.ContentsLaws.{column-halves, alone-count, ReadOk}
 use Rattle.codec.proofs.ListLaws.{filled-length, getD-before, getD-behind}
 use Rattle.codec.proofs.BufferLaws.{written-length, written-next, written-stored}
@@ -364,14 +364,6 @@ module _ (place : ℕ) (im : Image) (n : Number) where
 pub packs-fit : {im : Image} {n : Number} → PacksUnder im n → Fit im n
 packs-fit {im} {n} p = packed-fit 0 im n (p .truncated 0)
 
--- document 01's conditions on a number and its image: normal form; fixed point, it does not exceed; exponential, x is within its limits;
--- and not negative under an unsigned image
-pub record PackConditions (im : Image) (n : Number) : Type 0 where
-  pub isNormal : normal n ≡ true
-  pub fixed : im .exponential ≡ false → exceeds im n ≡ false
-  pub exponential : im .exponential ≡ true → exponentOutside im n ≡ false
-  pub unsigned : isSigned (im .sign) ≡ false → exponentLimit ≤ storedExponent im n
-
 -- Published: a number packs under an image of a contents where the conditions hold.
 pub conditions-pack : {im : Image} {n : Number} → Checked im → PackConditions im n → PacksUnder im n
 conditions-pack {im} {n} checked p =
@@ -415,13 +407,13 @@ pack-conditions {im} {n} p =
         absurd (omega arith)
 
 -- each number of a list that packs does
-pub packs-at : {ims : List Image} {ns : List Number} → Packs ims ns → (i : ℕ) (d : Image) (e : Number) → i < length ims → PacksUnder (getD ims i d) (getD ns i e)
+pub packs-at : {ims : List Image} {ns : List Number} → AllPack ims ns → (i : ℕ) (d : Image) (e : Number) → i < length ims → PacksUnder (getD ims i d) (getD ns i e)
 packs-at none i d e h = absurd (omega arith)
 packs-at (one p ps) zero d e h = p
 packs-at (one p ps) (suc i) d e h = packs-at ps i d e (omega arith)
 
 -- a list that packs has one number per column
-pub packs-length : {ims : List Image} {ns : List Number} → Packs ims ns → length ns ≡ length ims
+pub packs-length : {ims : List Image} {ns : List Number} → AllPack ims ns → length ns ≡ length ims
 packs-length none = refl
 packs-length (one p ps) = ap suc (packs-length ps)
 
@@ -434,13 +426,13 @@ bytesOf (im ∷ ims) [] = []
 bytesOf (im ∷ ims) (n ∷ ns) = columnBytes im (truncatedTo im n) ++ bytesOf ims ns
 
 -- a list that packs is packed to them
-pub packs-columns : (column : ℕ) {ims : List Image} {ns : List Number} → Packs ims ns → packColumns column ims ns ≡ done (bytesOf ims ns)
+pub packs-columns : (column : ℕ) {ims : List Image} {ns : List Number} → AllPack ims ns → packColumns column ims ns ≡ done (bytesOf ims ns)
 unfolding packColumns _then_ bytesOf
 packs-columns column none = refl
 packs-columns column (one {im} {n} p ps) = rw (packed-anywhere 0 im n (p .truncated 0) column, packs-columns (suc column) ps)
 
 -- where a list is packed, it packs
-pub columns-pack : (column : ℕ) (ims : List Image) (ns : List Number) {body : List ℕ} → length ns ≡ length ims → packColumns column ims ns ≡ done body → Packs ims ns
+pub columns-pack : (column : ℕ) (ims : List Image) (ns : List Number) {body : List ℕ} → length ns ≡ length ims → packColumns column ims ns ≡ done body → AllPack ims ns
 unfolding packColumns _then_
 columns-pack column [] [] e h = none
 columns-pack column [] (n ∷ ns) e h = absurd (omega arith)
@@ -448,14 +440,14 @@ columns-pack column (im ∷ ims) [] e h = absurd (omega arith)
 columns-pack column (im ∷ ims) (n ∷ ns) {body} e h =
     first (λ bytes g. columns-pack (suc column) ims ns {body = bytes} (omega arith) g) (packedTruncation column im n) refl
   where
-    never : (x y : ℕ) → packColumns column (im ∷ ims) (n ∷ ns) ≡ refused x y → Packs (im ∷ ims) (n ∷ ns)
+    never : (x y : ℕ) → packColumns column (im ∷ ims) (n ∷ ns) ≡ refused x y → AllPack (im ∷ ims) (n ∷ ns)
     never x y r = let z : _≡_ {A = ℕ} 0 1 = cc in absurd (omega arith)
 
-    rest : ((bytes : List ℕ) → packColumns (suc column) ims ns ≡ done bytes → Packs ims ns) → {t : Truncated} → packedTruncation column im n ≡ done t → (a : Answer (List ℕ)) → packColumns (suc column) ims ns ≡ a → Packs (im ∷ ims) (n ∷ ns)
+    rest : ((bytes : List ℕ) → packColumns (suc column) ims ns ≡ done bytes → AllPack ims ns) → {t : Truncated} → packedTruncation column im n ≡ done t → (a : Answer (List ℕ)) → packColumns (suc column) ims ns ≡ a → AllPack (im ∷ ims) (n ∷ ns)
     rest later f (done bytes) g = one (packs-under column im n f) (later bytes g)
     rest later f (refused x y) g = never x y (rw (f, g))
 
-    first : ((bytes : List ℕ) → packColumns (suc column) ims ns ≡ done bytes → Packs ims ns) → (a : Answer Truncated) → packedTruncation column im n ≡ a → Packs (im ∷ ims) (n ∷ ns)
+    first : ((bytes : List ℕ) → packColumns (suc column) ims ns ≡ done bytes → AllPack ims ns) → (a : Answer Truncated) → packedTruncation column im n ≡ a → AllPack (im ∷ ims) (n ∷ ns)
     first later (done t) f = rest later f (packColumns (suc column) ims ns) refl
     first later (refused x y) f = never x y (rw f)
 
@@ -585,7 +577,7 @@ columns-end count k ims ns h =
 
 module _ (count : ℕ) (ims : List Image) (ns : List Number) (k : ℕ) (d : Image) (e : Number) (here : k < count) (long-ims : count ≤ length ims) (long-ns : count ≤ length ns) where
   -- each number of a list that packs fits its image
-  pub fits-at : Packs (take count ims) (take count ns) → Fit (getD ims k d) (getD ns k e)
+  pub fits-at : AllPack (take count ims) (take count ns) → Fit (getD ims k d) (getD ns k e)
   fits-at packs =
       let there : PacksUnder (getD (take count ims) k d) (getD (take count ns) k e) = packs-at packs k d e (omega (arith, length-take-le count ims long-ims)) in
       packs-fit (rw (getD-take count ims k d here, getD-take count ns k e here) at there)
@@ -633,7 +625,7 @@ columns-place ims k d h before sized = omega (arith, size-next ims k d h, ap (λ
 
 -- with all of them written the body stands at the buffer's start
 pub columns-stored :
-    {ims : List Image} {ns : List Number} (first : List ℕ) → Packs ims ns → written first 0 (bytesOf ims ns) ≡ storedIn (packColumns 0 ims ns) first
+    {ims : List Image} {ns : List Number} (first : List ℕ) → AllPack ims ns → written first 0 (bytesOf ims ns) ≡ storedIn (packColumns 0 ims ns) first
 columns-stored {ims} {ns} first packs =
     written-stored first (bytesOf ims ns) ∙ ap (λ (a : Answer (List ℕ)). storedIn a first) (sym (packs-columns 0 packs))
 
@@ -729,18 +721,18 @@ packed-count ims ns {body} h = go (eqb (length ns) (length ims)) refl h
     go false e k = let z : _≡_ {A = ℕ} 0 1 = cc in absurd (omega arith)
 
 -- a list that packs is packed to the bytes of its truncations
-pub packs-packed : {ims : List Image} {ns : List Number} → Packs ims ns → packList ims ns ≡ done (bytesOf ims ns)
+pub packs-packed : {ims : List Image} {ns : List Number} → AllPack ims ns → packList ims ns ≡ done (bytesOf ims ns)
 packs-packed {ims} {ns} packs = list-same ims ns (packs-length packs) ∙ packs-columns 0 packs
 
 -- and only such a list is packed
-pub packed-only : (ims : List Image) (ns : List Number) {body : List ℕ} → packList ims ns ≡ done body → Packs ims ns
+pub packed-only : (ims : List Image) (ns : List Number) {body : List ℕ} → packList ims ns ≡ done body → AllPack ims ns
 packed-only ims ns h = let same = packed-count ims ns h in columns-pack 0 ims ns same (sym (list-same ims ns same) ∙ h)
 
 -- both ways
 pub packs-exactly :
     (ims : List Image) (ns : List Number)
-    → (Packs ims ns → (body : List ℕ) × (packList ims ns ≡ done body))
-    × ((body : List ℕ) × (packList ims ns ≡ done body) → Packs ims ns)
+    → (AllPack ims ns → (body : List ℕ) × (packList ims ns ≡ done body))
+    × ((body : List ℕ) × (packList ims ns ≡ done body) → AllPack ims ns)
 packs-exactly ims ns = (λ packs. (bytesOf ims ns, packs-packed packs), λ packed. packed-only ims ns (packed .1))
 
 -- the body of a list is the bytes of its truncations

@@ -3,6 +3,7 @@ pub mod ListLaws
 pub mod BufferLaws
 pub mod ContentsLaws
 pub mod BodyLaws
+pub mod PacksTheorem
 pub mod UnpackLaws
 pub mod HalfLaws
 pub mod OrderTheorem

@@ -12,9 +12,9 @@ use Rattle.decimal.specs.declared.number.Number.{Number}
 use Rattle.decimal.specs.Answer.{Answer, done, refused, _then_, pick}
 use Rattle.decimal.specs.declared.truncation.Truncation.{Truncation}
 use Rattle.decimal.specs.Digits.{precision, digitsOf, valueOf, zeros}
-use Rattle.decimal.specs.Number.{exponentLimit, zeroNumber}
+use Rattle.decimal.specs.Number.{exponentLimit, normal, zeroNumber}
 use Rattle.decimal.specs.Image.{hashes}
-use Rattle.decimal.specs.Truncation.{Truncated, packedTruncation}
+use Rattle.decimal.specs.Truncation.{isSigned, exceeds, exponentOutside, storedExponent, Truncated, packedTruncation}
 use Rattle.codec.specs.declared.body.Numbers.{Numbers}
 use Rattle.codec.specs.declared.body.WriteAnswer.{WriteAnswer}
 use Rattle.codec.specs.declared.body.WriteAnswer.the-variants as gives
@@ -79,15 +79,23 @@ within room bytes = pick (ltb room (length bytes)) (refused 6 0) (done bytes)
 unfoldable pub packing : List ℕ → List Number → ℕ → Answer (List ℕ)
 packing contents ns room = bodyOf contents ns then within room
 
--- a number packs under an image: it is truncated and not refused
-pub record PacksUnder (im : Image) (n : Number) : Type 0 where
-  pub to : Truncated
-  pub truncated : (column : ℕ) → packedTruncation column im n ≡ done to
+-- When a list packs under the images of a contents, in document 01's words: the list has one number per column, each is in normal form,
+-- no fixed-point magnitude exceeds its image, and each exponential x is from −99 to 99, and not negative under an unsigned image. (No
+-- image of a contents that is read has over 13 # signs. The room in a buffer plays no part in this.)
 
--- one number per column, and each packs
+pub record PackConditions (im : Image) (n : Number) : Type 0 where
+  pub isNormal : normal n ≡ true
+  pub fixed : im .exponential ≡ false → exceeds im n ≡ false
+  pub exponential : im .exponential ≡ true → exponentOutside im n ≡ false
+  pub unsigned : isSigned (im .sign) ≡ false → exponentLimit ≤ storedExponent im n
+
 pub data Packs : List Image → List Number → Type 0 where
   none : Packs [] []
-  one : {im : Image} {n : Number} {ims : List Image} {ns : List Number} → PacksUnder im n → Packs ims ns → Packs (im ∷ ims) (n ∷ ns)
+  one :
+      {im : Image} {n : Number} {ims : List Image} {ns : List Number}
+      → PackConditions im n
+      → Packs ims ns
+      → Packs (im ∷ ims) (n ∷ ns)
 
 -- the list that the code's array and count stand for
 unfoldable pub listOf : Numbers → List Number
@@ -104,6 +112,16 @@ sized (done bytes) = done (length bytes)
 sized (refused number place) = refused number place
 
 -- What the code's helpers ask and find.
+
+-- a number that packing truncates, under every column's number
+pub record PacksUnder (im : Image) (n : Number) : Type 0 where
+  pub to : Truncated
+  pub truncated : (column : ℕ) → packedTruncation column im n ≡ done to
+
+-- one such number per column
+pub data AllPack : List Image → List Number → Type 0 where
+  none : AllPack [] []
+  one : {im : Image} {n : Number} {ims : List Image} {ns : List Number} → PacksUnder im n → AllPack ims ns → AllPack (im ∷ ims) (n ∷ ns)
 
 -- the truncation that the code holds, its digits as a whole number
 abbrev pub heldBy : Truncation → Truncated

@@ -13,7 +13,7 @@ ghost use Rattle.codec.specs.Body.{
   columnBytes,
   packColumns,
   packing,
-  Packs,
+  AllPack,
   listOf,
   writeMeaning,
   sized,
@@ -134,7 +134,7 @@ fn write_columns(
     values: [Number; COLUMNS],
     buffer: &mut [u8],
 )
-    requires { ⌜ (columns ≤ maxColumns) × (Packs (take columns images) (take columns values)) × (bodySize (take columns images) ≤ length (now buffer)) ⌝ }
+    requires { ⌜ (columns ≤ maxColumns) × (AllPack (take columns images) (take columns values)) × (bodySize (take columns images) ≤ length (now buffer)) ⌝ }
     ensures { λ r. ⌜ now (buffer .exit) ≡ storedIn (packColumns 0 (take columns images) (take columns values)) (now (buffer .entry)) ⌝ }
 {
     let mut at = 0;

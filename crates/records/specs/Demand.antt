@@ -1,5 +1,6 @@
--- Demand 3 whole, over the definitions that the calls promise. A list packs under a contents where `bodyOf` is done; document 01,
--- "Packed bodies", "Alpha text" and "Print lines", says how each of the three is read back.
+-- Demand 3 whole, over the definitions that the calls promise. A list packs under a contents where `bodyOf` is done: codec's
+-- PacksTheorem shows that this is `Packs`, document 01's conditions. Document 01, "Packed bodies", "Alpha text" and "Print lines", says how
+-- each of the three is read back.
 use Prim.Native.Nat.{ℕ}
 use mathlib.Core.Path.{_≡_}
 use mathlib.Core.Logic.{_↔_}

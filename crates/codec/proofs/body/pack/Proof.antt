@@ -15,7 +15,7 @@ use Rattle.codec.specs.declared.contents.Contents.{Contents}
 use Rattle.codec.specs.declared.body.Numbers.{Numbers}
 use Rattle.codec.specs.Lists.{storedIn}
 use Rattle.codec.specs.Contents.{maxColumns, bodySize}
-use Rattle.codec.specs.Body.{packColumns, packing, Packs, listOf, sized}
+use Rattle.codec.specs.Body.{packColumns, packing, AllPack, listOf, sized}
 use Rattle.codec.proofs.ContentsLaws.{alone-read, alone-refused, ReadOk}
 use Rattle.codec.proofs.BodyLaws.{bytesOf, columns-pack, checked-done, packs-columns, bytes-length, packing-contents, packing-length, packing-columns, packing-room, packing-done, list-length, list-front, images-front, images-few}
 use Rattle.codec.proofs.body.pack.Statement.{statement}
@@ -58,10 +58,10 @@ module _ (contents : List ℕ) (r : Contents) (numbers : Numbers) (ok : ReadOk c
   columns = λ i. packColumns 0 (images-front ok i) (sym numbers-front i)
 
   -- where the columns were checked, the list packs
-  list-packs : checkedOnly (packColumns 0 ims ns) ≡ done tt → Packs ims ns
+  list-packs : checkedOnly (packColumns 0 ims ns) ≡ done tt → AllPack ims ns
   list-packs h = columns-pack 0 ims ns both-long (checked-done (packColumns 0 ims ns) h .1)
 
-  module _ (packs : Packs ims ns) where
+  module _ (packs : AllPack ims ns) where
     -- the body
     body-packed : packColumns 0 (ok .table .images) (listOf numbers) ≡ done (bytesOf ims ns)
     body-packed = sym columns ∙ packs-columns 0 packs
