@@ -17,6 +17,7 @@ use Rattle.decimal.specs.declared.image.Image.{Image}
 use Rattle.decimal.specs.declared.number.Number.{Number}
 use Rattle.decimal.specs.Answer.{Answer, done, refused, _then_, pick}
 use Rattle.decimal.specs.Digits.{digitsOf}
+use Rattle.decimal.specs.Number.{normal}
 use Rattle.decimal.specs.Image.{hashByte, pointByte, commaByte, hashes, times, signBytes, fractionBytes, upBytes, imageBytes, scannedImage, IsImage, readImage}
 use Rattle.decimal.specs.Truncation.{Truncated, truncation, checkedOnly}
 use Rattle.decimal.proofs.DigitLaws.{digit-below, digits-are-digits, le-or-lt}
@@ -25,6 +26,7 @@ use Rattle.codec.specs.Lists.{storedIn}
 use Rattle.codec.specs.Body.{written}
 use Rattle.codec.specs.Alpha.{alphaText, alphaOf, blankByte, zeroByte}
 use Rattle.codec.proofs.ListLaws.{filled-length}
+use Rattle.codec.proofs.ContentsLaws.{never-done}
 use Rattle.codec.proofs.AlphaLaws.{text-length, image-length, alpha-done}
 use Rattle.records.specs.declared.fields.Fill.{Fill}
 use Rattle.records.specs.declared.fields.Element.{Element}
@@ -393,6 +395,15 @@ module _ (field : List ℕ) (n : Number) where
       go (refused x y) e = refl
 
 -- What an element may be.
+
+-- a number that is not refused is in normal form
+pub number-normal : (room index : ℕ) (n : Number) → checkElement room index (element.Number n) ≡ done tt → normal n ≡ true
+unfolding checkElement
+number-normal room index n h = go (normal n) refl h
+  where
+    go : (b : Bool) → normal n ≡ b → _≡_ {A = Answer (Unit {0})} (pick b (done tt) (refused 3 index)) (done tt) → normal n ≡ true
+    go true e h = e
+    go false e h = never-done h
 
 -- a text that is not refused lies within its bytes
 pub text-inside : (room start size : ℕ) {e : Element} → e ≡ element.Text start size → checkElement room 0 e ≡ done tt → start + size ≤ room

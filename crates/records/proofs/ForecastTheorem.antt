@@ -55,7 +55,7 @@ rest-length left p =
     omega arith
 
 -- what the test for a field says
-has-field : (left : List ℕ) → hasField left ≡ true → length (literals left) < length left
+pub has-field : (left : List ℕ) → hasField left ≡ true → length (literals left) < length left
 unfolding hasField
 has-field left h = ltb-true (length (literals left)) (length left) h
 
@@ -87,7 +87,7 @@ from-length texts line left (e ∷ es) h =
         omega arith
 
 -- elements are printed only where there is a field
-some-done : (line : List ℕ) (es : List Element) → checkSome line es ≡ done tt → 0 < length es → length (literals line) < length line
+pub some-done : (line : List ℕ) (es : List Element) → checkSome line es ≡ done tt → 0 < length es → length (literals line) < length line
 unfolding checkSome
 some-done line [] h l = absurd (omega arith)
 some-done line (e ∷ es) h l = go (hasField line) refl h
@@ -98,7 +98,7 @@ some-done line (e ∷ es) h l = go (hasField line) refl h
     go false k h = let z : _≡_ {A = ℕ} 0 1 = cc in absurd (omega arith)
 
 -- a step that is done behind one that is done
-then-last : {A : Type 0} (r : Answer (Unit {0})) (s : Answer A) {a : A} → (r then λ _. s) ≡ done a → (r ≡ done tt) × (s ≡ done a)
+pub then-last : {A : Type 0} (r : Answer (Unit {0})) (s : Answer A) {a : A} → (r then λ _. s) ≡ done a → (r ≡ done tt) × (s ≡ done a)
 unfolding _then_
 then-last (done tt) s h = (refl, h)
 then-last (refused number place) s h = let z : _≡_ {A = ℕ} 0 1 = cc in absurd (omega arith)

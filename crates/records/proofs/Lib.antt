@@ -9,5 +9,6 @@ pub mod FillLaws
 pub mod FieldBackTheorem
 pub mod CheckLaws
 pub mod ForecastTheorem
+pub mod SpilledTheorem
 pub mod PrintLaws
 pub mod DemandTheorem

@@ -281,15 +281,15 @@ pub fn print(
     if let FitAnswer::Refused(refusal) = check_line(line, elements, count, texts.len()) {
         return PrintAnswer::Refused(refusal);
     }
-    let size = measure(line, elements, count);
-    if buffer.len() < size.bytes {
+    let Size { bytes, spilled } = measure(line, elements, count);
+    if buffer.len() < bytes {
         return PrintAnswer::Refused(Refusal {
             number: NO_ROOM,
             place: 0,
         });
     }
     write_lines(line, elements, count, texts, buffer);
-    PrintAnswer::Printed(size.bytes, size.spilled)
+    PrintAnswer::Printed(bytes, spilled)
 }
 
 // A bound on the bytes that a line prints, or why there is none.

@@ -39,11 +39,11 @@ measure-requires c κs =
 
 returns-2 : tie.Need-returns-2
 returns-2 c =
-    let a = c .before .before .before .before .before .before .before .before .before in
-    let e = c .before .before .before in
+    let a = c .before .before .before .before .before .before .before .before in
+    let e = c .before .before in
     let checked = sym (e .before .before .check-line .ensures) ∙ ap fitMeaning (e .enum-told .given .1) in
     let k = a .args .buffer .now in
-    let z = c .before .before .measure .ensures (a .args .texts .now) in
+    let z = c .before .measure .ensures (a .args .texts .now) in
     answer-refused
     (printing (a .args .line .now) (elementList (a .args .elements) (a .args .count)) (a .args .texts .now) (length k))
     6 0 k
@@ -52,10 +52,10 @@ returns-2 c =
 
 write-lines-requires : tie.Need-write-lines-requires
 write-lines-requires c κs =
-    let a = c .before .before .before .before .before .before .before .before .before .before in
-    let e = c .before .before .before .before in
+    let a = c .before .before .before .before .before .before .before .before .before in
+    let e = c .before .before .before in
     let checked = sym (e .before .before .check-line .ensures) ∙ ap fitMeaning (e .enum-told .given .1) in
-    let z = c .before .before .before .measure .ensures (a .args .texts .now) in
+    let z = c .before .before .measure .ensures (a .args .texts .now) in
     let r = checked-ready (a .args .line .now) (elementList (a .args .elements) (a .args .count)) (a .args .texts .now) checked in
     record { ready = r .0; fields = r .1; elements = r .2; fits = omega (arith, z .bytes-size) }
 
@@ -64,11 +64,11 @@ same-length c = search needs
 
 returns-3 : tie.Need-returns-3
 returns-3 c =
-    let a = c .before .before .before .before .before .before .before .before .before .before .before .before .before in
-    let e = c .before .before .before .before .before .before .before in
+    let a = c .before .before .before .before .before .before .before .before .before .before .before .before in
+    let e = c .before .before .before .before .before .before in
     let checked = sym (e .before .before .check-line .ensures) ∙ ap fitMeaning (e .enum-told .given .1) in
     let k = a .args .buffer .now in
-    let z = c .before .before .before .before .before .before .measure .ensures (a .args .texts .now) in
+    let z = c .before .before .before .before .before .measure .ensures (a .args .texts .now) in
     answer-printed
     (printing (a .args .line .now) (elementList (a .args .elements) (a .args .count)) (a .args .texts .now) (length k))
     (printFrom (a .args .texts .now) (a .args .line .now) (a .args .line .now) (elementList (a .args .elements) (a .args .count)))
