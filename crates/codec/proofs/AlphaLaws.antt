@@ -35,7 +35,7 @@ use Rattle.codec.proofs.ListLaws.{getD-before, getD-behind}
 use Rattle.codec.proofs.BodyLaws.{digit-at}
 use Rattle.codec.specs.Contents.{signCount}
 use Rattle.codec.specs.Body.{exponentSize, within, sized}
-use Rattle.codec.specs.Alpha.{zeroByte, exponentByte, digitBytes, signText, fractionText, exponentText, alphaText, alphaOf, converting}
+use Rattle.codec.specs.Alpha.{zeroByte, exponentByte, digitBytes, signText, fractionText, exponentText, alphaText, alphaUnder, alphaOf, convertingUnder, converting}
 use Rattle.codec.specs.Body.{heldBy, Held}
 use Rattle.codec.specs.Alpha.{fractionLength, exponentLength, tailText, tailLength, textLength}
 
@@ -170,10 +170,9 @@ image-length im =
       up-bytes-length (im .exponential),
     )
 
--- a text has the length of the bytes that are its image
-text-image-length : (place : ℕ) (bytes : List ℕ) {im : Image} (t : Truncated) → readImage place bytes ≡ done im → length (alphaText im t) ≡ length bytes
-text-image-length place bytes {im} t read =
-    text-length im t ∙ sym (ap length (read-done place bytes im read .0 .rendered) ∙ image-length im)
+-- and so have the bytes that are read as it
+read-length : (place : ℕ) (bytes : List ℕ) {im : Image} → readImage place bytes ≡ done im → length bytes ≡ textLength im
+read-length place bytes {im} read = ap length (read-done place bytes im read .0 .rendered) ∙ image-length im
 
 -- The bytes of a text, one by one.
 
@@ -494,6 +493,45 @@ pub truncation-refused :
     → truncation 0 im n ≡ refused (refusal .number) (refusal .place)
 truncation-refused im n r refusal e a = held-answer (truncation 0 im n) r refusal e a
 
+module _ (im : Image) (n : Number) where
+  -- under an image that is read 3, 4 and 5 are the number's
+  pub under-refused : {number place : ℕ} → truncation 0 im n ≡ refused number place → alphaUnder im n ≡ refused number place
+  unfolding alphaUnder _then_
+  under-refused h = rw h
+
+  -- else there is a text
+  pub under-done : {t : Truncated} → truncation 0 im n ≡ done t → alphaUnder im n ≡ done (alphaText im t)
+  unfolding alphaUnder alphaText _then_
+  under-done h = rw h
+
+  -- and it is that of the truncation that the code holds
+  pub under-held : (r : Truncation) → Found im n r → alphaUnder im n ≡ done (alphaText im (heldBy r))
+  under-held r found = under-done (found .truncated) ∙ ap (λ (t : Truncated). done (alphaText im t)) (sym (found .same))
+
+  -- Published: the text has the length that the image says.
+  pub alpha-under-length : {text : List ℕ} → alphaUnder im n ≡ done text → length text ≡ textLength im
+  alpha-under-length {text} h = go (truncation 0 im n) refl
+    where
+      go : (a : Answer Truncated) → truncation 0 im n ≡ a → length text ≡ textLength im
+      go (done t) e = ap length (same-text h (under-done e)) ∙ text-length im t
+      go (refused number place) e = never-text h (under-refused e)
+
+  module _ (room : ℕ) where
+    -- a number that has no text is refused as that says
+    pub converting-under-refused : {number place : ℕ} → alphaUnder im n ≡ refused number place → convertingUnder im n room ≡ refused number place
+    unfolding convertingUnder _then_
+    converting-under-refused h = rw h
+
+    -- a text that is too long is refused with 6
+    pub converting-under-long : {text : List ℕ} → alphaUnder im n ≡ done text → room < length text → convertingUnder im n room ≡ refused 6 0
+    unfolding convertingUnder _then_ within
+    converting-under-long {text} h long = rw (h, lt-ltb room (length text) long)
+
+    -- any other is written
+    pub converting-under-done : {text : List ℕ} → alphaUnder im n ≡ done text → length text ≤ room → convertingUnder im n room ≡ done text
+    unfolding convertingUnder _then_ within
+    converting-under-done {text} h fits = rw (h, le-ltb room (length text) fits)
+
 module _ (bytes : List ℕ) (n : Number) where
   -- 1 and 2 come first
   pub alpha-image : {number place : ℕ} → readImage 0 bytes ≡ refused number place → alphaOf bytes n ≡ refused number place
@@ -501,33 +539,27 @@ module _ (bytes : List ℕ) (n : Number) where
   alpha-image h = rw h
 
   module _ (im : Image) (read : readImage 0 bytes ≡ done im) where
-    -- then 3, 4 and 5
-    pub alpha-number : {number place : ℕ} → truncation 0 im n ≡ refused number place → alphaOf bytes n ≡ refused number place
+    -- else the answer is that under the image
+    pub alpha-read : alphaOf bytes n ≡ alphaUnder im n
     unfolding alphaOf _then_
-    alpha-number h = rw (read, h)
+    alpha-read = rw read
 
-    -- else there is a text
+    -- so is the call's
+    pub converting-read : (room : ℕ) → converting bytes n room ≡ convertingUnder im n room
+    unfolding converting convertingUnder
+    converting-read room = ap (λ (a : Answer (List ℕ)). a then within room) alpha-read
+
+    -- a number that the image can truncate has a text
     pub alpha-done : {t : Truncated} → truncation 0 im n ≡ done t → alphaOf bytes n ≡ done (alphaText im t)
-    unfolding alphaOf _then_
-    alpha-done h = rw (read, h)
-
-    -- and it is that of the truncation that the code holds
-    pub alpha-held : (r : Truncation) → Found im n r → alphaOf bytes n ≡ done (alphaText im (heldBy r))
-    alpha-held r found = alpha-done (found .truncated) ∙ ap (λ (t : Truncated). done (alphaText im t)) (sym (found .same))
+    alpha-done h = alpha-read ∙ under-done im n h
 
   -- Published: the text has the image's length.
   pub alpha-length : {text : List ℕ} → alphaOf bytes n ≡ done text → length text ≡ length bytes
-  alpha-length {text} h = scanned (readImage 0 bytes) refl
+  alpha-length {text} h = go (readImage 0 bytes) refl
     where
-      truncated : (im : Image) → readImage 0 bytes ≡ done im → (a : Answer Truncated) → truncation 0 im n ≡ a → length text ≡ length bytes
-      truncated im read (done t) e =
-          let same : text ≡ alphaText im t = same-text h (alpha-done im read e) in
-          ap length same ∙ text-image-length 0 bytes t read
-      truncated im read (refused number place) e = never-text h (alpha-number im read e)
-
-      scanned : (a : Answer Image) → readImage 0 bytes ≡ a → length text ≡ length bytes
-      scanned (done im) read = truncated im read (truncation 0 im n) refl
-      scanned (refused number place) read = never-text h (alpha-image read)
+      go : (a : Answer Image) → readImage 0 bytes ≡ a → length text ≡ length bytes
+      go (done im) read = alpha-under-length im n (sym (alpha-read im read) ∙ h) ∙ sym (read-length 0 bytes read)
+      go (refused number place) read = never-text h (alpha-image read)
 
   module _ (room : ℕ) where
     -- a number that has no text is refused as that says
@@ -535,12 +567,7 @@ module _ (bytes : List ℕ) (n : Number) where
     unfolding converting _then_
     converting-refused h = rw h
 
-    -- a text that is too long is refused with 6
-    pub converting-long : {text : List ℕ} → alphaOf bytes n ≡ done text → room < length text → converting bytes n room ≡ refused 6 0
-    unfolding converting _then_ within
-    converting-long {text} h long = rw (h, lt-ltb room (length text) long)
-
-    -- any other is written
+    -- a text for which there is room is written
     pub converting-done : {text : List ℕ} → alphaOf bytes n ≡ done text → length text ≤ room → converting bytes n room ≡ done text
     unfolding converting _then_ within
     converting-done {text} h fits = rw (h, le-ltb room (length text) fits)

@@ -9,7 +9,7 @@ use native.Mathlib.Nat.{div-le-self, mod-eq-of-lt}
 use native.Mathlib.Numerals.{add-one}
 use lib.Dec.{ltb, leb, eqb}
 use lib.ListN.{length, take, drop, getD, length-append, drop-of-length-le}
-use lib.Seq.{getD-append-add, getD-take, drop-cons, length-take-le}
+use lib.Seq.{getD-append-add, getD-take, length-take-le}
 use borrow.Author.Tests.{eq-eqb, ne-eqb, lt-ltb, le-ltb, eqb-true}
 use Rattle.decimal.specs.declared.image.Sign.{Sign}
 use Rattle.decimal.specs.declared.image.Sign.the-variants.{Unsigned, Plus, Minus}
@@ -28,13 +28,13 @@ use Rattle.decimal.proofs.KeptLaws.{checked-refused, kept-whole}
 use Rattle.decimal.proofs.BoolLaws.{zero-or-not}
 use Rattle.decimal.proofs.DigitLaws.{le-or-lt, digits-length, digits-split, digits-are-digits, digit-below, value-of-digits, zeros-length}
 use Rattle.codec.specs.declared.body.Numbers.{Numbers}
-use Rattle.codec.specs.declared.contents.Contents.{Contents}
-use Rattle.codec.specs.Lists.{filled, storedIn}
-use Rattle.codec.specs.Contents.{signCount, exponentCount, padCount, columnSize, bodySize, Checked, Table, readColumn, columnLength, readColumns, readContents, readAlone, maxColumns, noImage}
+use Rattle.codec.specs.Lists.{storedIn}
+use Rattle.codec.specs.Contents.{signCount, exponentCount, padCount, columnSize, bodySize, Checked, readColumn, columnLength, readColumns, readContents, readAlone, checkImages, maxColumns}
 use Rattle.codec.specs.Body.AllPack.{none, one}
-use Rattle.codec.specs.Body.{exponentSize, signHalf, signHalves, exponentHalves, columnHalves, packHalves, columnBytes, packColumns, packList, bodyOf, within, packing, listOf, PackConditions, PacksUnder, AllPack, heldBy, Held, written}
-use Rattle.codec.proofs.ContentsLaws.{column-halves, alone-count, ReadOk}
-use Rattle.codec.proofs.ListLaws.{filled-length, getD-before, getD-behind}
+use Rattle.codec.specs.Body.{exponentSize, signHalf, signHalves, exponentHalves, columnHalves, packHalves, columnBytes, packColumns, packList, bodyOf, within, packingUnder, packUnder, packing, listOf, PackConditions, PacksUnder, AllPack, heldBy, Held, written}
+use Rattle.codec.proofs.ContentsLaws.{column-halves}
+use Rattle.codec.proofs.ListLaws.{filled-length, filled-take, taken-from, getD-before, getD-behind}
+use Rattle.codec.proofs.UnderLaws.{pack-under-checked}
 use Rattle.codec.proofs.BufferLaws.{written-length, written-next, written-stored}
 
 -- the first n elements are at most n
@@ -530,15 +530,11 @@ module _ (column : ℕ) (im : Image) (n : Number) (ims : List Image) (ns : List 
 module _ (count : ℕ) (ims : List Image) (ns : List Number) (k : ℕ) (d : Image) (e : Number) (here : k < count) (long-ims : count ≤ length ims) (long-ns : count ≤ length ns) where
   -- the images from a column on
   images-from : drop k (take count ims) ≡ getD ims k d ∷ drop (suc k) (take count ims)
-  images-from =
-      drop-cons (take count ims) k d (omega (arith, length-take-le count ims long-ims))
-      ∙ ap (λ (im : Image). im ∷ drop (suc k) (take count ims)) (getD-take count ims k d here)
+  images-from = taken-from d count ims k here long-ims
 
   -- and the numbers
   numbers-from : drop k (take count ns) ≡ getD ns k e ∷ drop (suc k) (take count ns)
-  numbers-from =
-      drop-cons (take count ns) k e (omega (arith, length-take-le count ns long-ns))
-      ∙ ap (λ (n : Number). n ∷ drop (suc k) (take count ns)) (getD-take count ns k e here)
+  numbers-from = taken-from e count ns k here long-ns
 
   -- and how they are packed
   columns-from :
@@ -631,20 +627,6 @@ columns-stored {ims} {ns} first packs =
 
 -- The packing call.
 
--- the first elements of an array that a list fills are the list
-filled-front : {A : Type 0} (d : A) (n : ℕ) (xs : List A) → length xs ≤ n → take (length xs) (filled n d xs) ≡ xs
-unfolding filled
-filled-front d n [] h = refl
-filled-front d zero (x ∷ xs) h = absurd (omega arith)
-filled-front {A} d (suc n) (x ∷ xs) h = ap (λ (l : List A). x ∷ l) (filled-front d n xs (omega arith))
-
--- no default stands where the list is long enough
-filled-take : {A : Type 0} (d : A) (n : ℕ) (xs : List A) → n ≤ length xs → filled n d xs ≡ take n xs
-unfolding filled
-filled-take d zero xs h = refl
-filled-take d (suc n) [] h = absurd (omega arith)
-filled-take {A} d (suc n) (x ∷ xs) h = ap (λ (l : List A). x ∷ l) (filled-take d n xs (omega arith))
-
 -- a list has as many numbers as its count says
 pub list-length : (numbers : Numbers) → length (listOf numbers) ≡ numbers .count
 unfolding listOf
@@ -655,54 +637,50 @@ pub list-front : (numbers : Numbers) (k : ℕ) → numbers .count ≡ k → k �
 unfolding listOf
 list-front numbers k e h = rw e (filled-take zeroNumber k (numbers .values) h)
 
--- the code's images are those of the contents
-pub images-front : {bytes : List ℕ} {r : Contents} (ok : ReadOk bytes r) → take (r .count) (r .images) ≡ ok .table .images
-images-front {bytes} ok =
-    (λ i. take (ok .count i) (ok .images i))
-    ∙ filled-front noImage maxColumns (ok .table .images) (alone-count bytes (ok .reads) .1)
+-- refused as the contents is
+pub packing-contents :
+    (contents : List ℕ) (ns : List Number) (room : ℕ) {x y : ℕ} → readAlone contents ≡ refused x y → packing contents ns room ≡ refused x y
+unfolding packing bodyOf _then_
+packing-contents contents ns room h = rw h
 
--- their count
-pub images-few : {bytes : List ℕ} {r : Contents} → ReadOk bytes r → r .count ≤ maxColumns
-images-few {bytes} ok = omega (arith, ok .count, alone-count bytes (ok .reads) .1)
+module _ (ims : List Image) (ns : List Number) (room : ℕ) where
+  -- refused as the images are
+  pub under-images : {x y : ℕ} → checkImages ims ≡ refused x y → packingUnder ims ns room ≡ refused x y
+  unfolding packingUnder packUnder _then_
+  under-images h = rw h
 
-module _ (contents : List ℕ) (ns : List Number) (room : ℕ) where
-  -- refused as the contents is
-  pub packing-contents : {x y : ℕ} → readAlone contents ≡ refused x y → packing contents ns room ≡ refused x y
-  unfolding packing bodyOf _then_
-  packing-contents h = rw h
-
-  module _ {table : Table} (reads : readAlone contents ≡ done table) where
+  module _ (good : checkImages ims ≡ done tt) where
     -- what the list is packed to, and then the room
-    packing-list : {a : Answer (List ℕ)} → packList (table .images) ns ≡ a → packing contents ns room ≡ (a then within room)
-    unfolding packing bodyOf _then_
-    packing-list h = rw (reads, h)
+    under-list : {a : Answer (List ℕ)} → packList ims ns ≡ a → packingUnder ims ns room ≡ (a then within room)
+    unfolding packingUnder
+    under-list h = rw (pack-under-checked ims ns good, h)
 
     -- 10 for a list of another length
-    pub packing-length : (length ns ≡ length (table .images) → ⊥) → packing contents ns room ≡ refused 10 0
+    pub under-length : (length ns ≡ length ims → ⊥) → packingUnder ims ns room ≡ refused 10 0
     unfolding packList _then_
-    packing-length h = packing-list {a = refused 10 0} (rw (ne-eqb (length ns) (length (table .images)) h))
+    under-length h = under-list {a = refused 10 0} (rw (ne-eqb (length ns) (length ims) h))
 
-    module _ (same : length ns ≡ length (table .images)) where
+    module _ (same : length ns ≡ length ims) where
       -- a list of the right length is packed column by column
-      list-columns : packList (table .images) ns ≡ packColumns 0 (table .images) ns
+      list-columns : packList ims ns ≡ packColumns 0 ims ns
       unfolding packList
-      list-columns = rw (eq-eqb (length ns) (length (table .images)) same)
+      list-columns = rw (eq-eqb (length ns) (length ims) same)
 
       -- refused as the columns are
-      pub packing-columns : {x y : ℕ} → packColumns 0 (table .images) ns ≡ refused x y → packing contents ns room ≡ refused x y
+      pub under-columns : {x y : ℕ} → packColumns 0 ims ns ≡ refused x y → packingUnder ims ns room ≡ refused x y
       unfolding _then_
-      packing-columns h = packing-list (list-columns ∙ h)
+      under-columns h = under-list (list-columns ∙ h)
 
-      module _ {body : List ℕ} (packed : packColumns 0 (table .images) ns ≡ done body) where
+      module _ {body : List ℕ} (packed : packColumns 0 ims ns ≡ done body) where
         -- 6 where the body is longer than the buffer
-        pub packing-room : room < length body → packing contents ns room ≡ refused 6 0
+        pub under-room : room < length body → packingUnder ims ns room ≡ refused 6 0
         unfolding _then_ within
-        packing-room h = packing-list (list-columns ∙ packed) ∙ rw (lt-ltb room (length body) h)
+        under-room h = under-list (list-columns ∙ packed) ∙ rw (lt-ltb room (length body) h)
 
         -- else the body
-        pub packing-done : length body ≤ room → packing contents ns room ≡ done body
+        pub under-done : length body ≤ room → packingUnder ims ns room ≡ done body
         unfolding _then_ within
-        packing-done h = packing-list (list-columns ∙ packed) ∙ rw (le-ltb room (length body) h)
+        under-done h = under-list (list-columns ∙ packed) ∙ rw (le-ltb room (length body) h)
 
 -- Published: a list is packed exactly where it packs, and its body has the length that the images say.
 

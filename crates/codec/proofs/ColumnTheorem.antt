@@ -855,7 +855,7 @@ below-part : (s : ℕ) → s < 16 → pick (belowBit s) 8 0 + s % 8 ≡ s
 below-part s h =
     ⊎-elim (λ le. rw (le-leb 8 s le) (omega arith)) (λ lt. rw (lt-leb 8 s lt) (omega arith)) (le-or-lt 8 s)
 
-module _ (im : Image) (sign whole size : ℕ) (rules : Rules im sign whole size) (few : size ≤ exponentLimit) (low : sign < 16) where
+module _ (im : Image) (sign whole size : ℕ) (rules : Rules im sign whole size) (few : size ≤ exponentLimit) where
   -- x is negative with a size, or not negative
   said-x :
       ((8 ≤ sign) × (0 < size) × (saidBy sign whole size .x ≡ exponentLimit - size))
@@ -888,10 +888,10 @@ module _ (im : Image) (sign whole size : ℕ) (rules : Rules im sign whole size)
       (λ r. let e = r .1 in le-ltb (saidBy sign whole size .x) exponentLimit (omega arith) ∙ sym (lt-leb 8 sign (r .0)))
       said-x
 
-  -- the sign half is that of what is said
-  said-sign : signHalf (saidBy sign whole size) ≡ sign
+  -- a sign half is that of what is said
+  said-sign : sign < 16 → signHalf (saidBy sign whole size) ≡ sign
   unfolding signHalf
-  said-sign =
+  said-sign low =
       ap₂ (λ (a : ℕ) (b : Bool). a + pick b 8 0) said-minus-part said-below ∙ add-comm (sign % 8) (pick (belowBit sign) 8 0) ∙ below-part sign low
 
   module _ (unsigned : isSigned (im .sign) ≡ false → sign ≡ 0) (fixed : im .exponential ≡ false → size ≡ 0) (wide : whole < 10 ^ hashes im) where
@@ -1023,7 +1023,7 @@ module _ (im : Image) (hs : List ℕ) (filled : length hs ≡ halfCount im + pad
   unfolding digitPart exponentPart padPart
   halves-whole = four-parts hs (signCount (im .sign)) (hashes im) (exponentCount (im .exponential))
 
-  module _ (column : ℕ) (n : Number) (half : Halves hs) (pass : HalvesPass column im hs n) where
+  module _ (column : ℕ) (n : Number) (pass : HalvesPass column im hs n) where
     -- the sign half that is read
     abbrev sign : ℕ
     sign = signPart (im .sign) hs
@@ -1048,14 +1048,10 @@ module _ (im : Image) (hs : List ℕ) (filled : length hs ≡ halfCount im + pad
     in-few : size ≤ exponentLimit
     in-few = exponent-few (im .exponential) (exponentPart im hs) exponent-part-length (pass-digits (exponentPart im hs) (pass .in-exponent))
 
-    -- the sign half is a half byte
-    in-low : sign < 16
-    in-low = sign-part-low (im .sign) half
-
     -- the truncation that is read keeps to the bounds
     read-kept : Kept im said
     read-kept =
-        said-kept im sign whole size in-rules in-few in-low
+        said-kept im sign whole size in-rules in-few
         (sign-part-none (im .sign) hs)
         (exponent-none (im .exponential) (exponentPart im hs) exponent-part-length (pass-digits (exponentPart im hs) (pass .in-exponent)))
         (subst (λ (k : ℕ). whole < 10 ^ k) digit-part-length (value-below (digitPart im hs) (pass-digits (digitPart im hs) (pass .in-digits))))
@@ -1072,28 +1068,56 @@ module _ (im : Image) (hs : List ℕ) (filled : length hs ≡ halfCount im + pad
         ∙ digits-of-value (digitPart im hs) (pass-digits (digitPart im hs) (pass .in-digits))
 
     -- its sign half is the one that was read
-    signs-again : signHalves (im .sign) said ≡ take (signCount (im .sign)) hs
-    signs-again =
-        sign-halves-again (im .sign) said hs (omega arith) (λ s. said-sign im sign whole size in-rules in-few in-low)
+    signs-again : Halves hs → signHalves (im .sign) said ≡ take (signCount (im .sign)) hs
+    signs-again half =
+        sign-halves-again (im .sign) said hs (omega arith)
+        (λ s. said-sign im sign whole size in-rules in-few (sign-part-low (im .sign) half))
 
     -- its digits of |x| are those that were read
     exponents-again : exponentHalves (im .exponential) said ≡ exponentPart im hs
     exponents-again =
         exponent-halves-again (im .exponential) said (exponentPart im hs) exponent-part-length
         (pass-digits (exponentPart im hs) (pass .in-exponent))
-        (said-size im sign whole size in-rules in-few in-low)
+        (said-size im sign whole size in-rules in-few)
 
     -- its padding is the one that was read
     pads-again : zeros (padCount im) ≡ padPart im hs
     pads-again = ap zeros (sym pad-part-length) ∙ pass-zeros (padPart im hs) (pass .in-pad)
 
     -- its halves are those that were read
-    halves-again : columnHalves im said ≡ hs
+    halves-again : Halves hs → columnHalves im said ≡ hs
     unfolding columnHalves
-    halves-again =
-        ap₂ (λ (s d : List ℕ). s ++ (d ++ (exponentHalves (im .exponential) said ++ zeros (padCount im)))) signs-again places-again
+    halves-again half =
+        ap₂ (λ (s d : List ℕ). s ++ (d ++ (exponentHalves (im .exponential) said ++ zeros (padCount im)))) (signs-again half) places-again
         ∙ ap₂ (λ (e z : List ℕ). take (signCount (im .sign)) hs ++ (digitPart im hs ++ (e ++ z))) exponents-again pads-again
         ∙ halves-whole
+
+module _ (im : Image) (checked : Checked im) (place : ℕ) (bytes : List ℕ) (n : Number) where
+  -- the truncation that a column's bytes say
+  abbrev saidIn : Truncated
+  saidIn =
+      saidBy (signPart (im .sign) (halvesOf bytes)) (valueOf (digitPart im (halvesOf bytes))) (valueOf (exponentPart im (halvesOf bytes)))
+
+  module _ (sized : length bytes ≡ columnSize im) (read : unpackColumn place im bytes ≡ done n) where
+    -- the halves of bytes of a column's size
+    halves-filled : length (halvesOf bytes) ≡ halfCount im + padCount im
+    halves-filled = halves-length bytes ∙ omega (arith, column-halves im)
+
+    -- what they pass
+    halves-pass : HalvesPass place im (halvesOf bytes) n
+    unfolding unpackColumn
+    halves-pass = halves-view place im (halvesOf bytes) read
+
+    -- the number read is packed to what they say
+    pub column-packs : Packing im n saidIn
+    column-packs =
+        kept-packing im checked saidIn (read-kept im (halvesOf bytes) halves-filled place n halves-pass) place (halves-pass .stands)
+
+    -- and where they are bytes, to them
+    column-same : Bytes bytes → columnBytes im saidIn ≡ bytes
+    unfolding columnBytes
+    column-same known =
+        ap packHalves (halves-again im (halvesOf bytes) halves-filled place n halves-pass (bytes-halves known)) ∙ packed-of-halves bytes
 
 -- Published: where bytes of a column's size are read, the number read packs to these bytes, in every column.
 pub column-accepts :
@@ -1104,19 +1128,11 @@ pub column-accepts :
     → length bytes ≡ columnSize im
     → unpackColumn place im bytes ≡ done n
     → (t : Truncated) × ((column : ℕ) → packedTruncation column im n ≡ done t) × (columnBytes im t ≡ bytes)
-unfolding unpackColumn columnBytes
-column-accepts im checked place bytes {n} known sized h =
-    let hs = halvesOf bytes in
-    let filled : length hs ≡ halfCount im + padCount im = halves-length bytes ∙ omega (arith, column-halves im) in
-    let half = bytes-halves known in
-    let pass = halves-view place im hs h in
-    let t = saidBy (signPart (im .sign) hs) (valueOf (digitPart im hs)) (valueOf (exponentPart im hs)) in
-    let kept = read-kept im hs filled place n half pass in
-    let packing = kept-packing im checked t kept place (pass .stands) in (
-      t,
-      λ column. packed-back column im n packing,
-      ap packHalves (halves-again im hs filled place n half pass) ∙ packed-of-halves bytes,
-    )
+column-accepts im checked place bytes {n} known sized h = (
+  saidIn im checked place bytes n,
+  λ column. packed-back column im n (column-packs im checked place bytes n sized h),
+  column-same im checked place bytes n sized h known,
+)
 
 -- what a packed column gives back: the number of the truncation, which packs to the same bytes
 pub record ColumnBack (im : Image) (n : Number) (t : Truncated) : Type 0 where

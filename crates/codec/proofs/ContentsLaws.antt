@@ -6,7 +6,7 @@ use mathlib.Core.List.{List, [], _∷_, _++_, append-assoc, append-nil}
 use native.Mathlib.Omega.{arith}
 use native.Mathlib.Numerals.{add-one}
 use lib.ListN.{length, take, drop, getD, set, length-append, length-drop, drop-of-length-le}
-use lib.Seq.{drop-cons, drop-drop}
+use lib.Seq.{drop-cons, drop-drop, getD-take, length-take-le}
 use lib.Dec.{ltb, leb, eqb}
 use borrow.Author.Tests.{lt-ltb, le-ltb, ltb-false, leb-true, le-leb, lt-leb, eq-eqb, ne-eqb}
 use Rattle.decimal.specs.declared.image.Sign.{Sign}
@@ -68,6 +68,12 @@ pub checked-at : {ims : List Image} → AllChecked ims → (i : ℕ) → i < len
 checked-at none i h = absurd (omega arith)
 checked-at (more c cs) zero h = c
 checked-at (more c cs) (suc i) h = checked-at cs i (omega arith)
+
+-- and so is each of the first images of an array
+pub checked-front :
+    (images : List Image) (count i : ℕ) → count ≤ length images → i < count → AllChecked (take count images) → Checked (getD images i noImage)
+checked-front images count i long here all =
+    rw (sym (getD-take count images i noImage here)) (checked-at all i (omega (arith, length-take-le count images long)))
 
 -- a column that is read has such an image
 pub column-checked : (place : ℕ) (bytes : List ℕ) {im : Image} → readColumn place bytes ≡ done im → Checked im
@@ -246,7 +252,7 @@ module _ (bytes : List ℕ) where
   alone-first h = rw h
 
   -- one that fills the bytes is the same alone
-  alone-same : {table : Table} → readContents bytes ≡ done table → table .size ≡ length bytes → readAlone bytes ≡ done table
+  pub alone-same : {table : Table} → readContents bytes ≡ done table → table .size ≡ length bytes → readAlone bytes ≡ done table
   unfolding readAlone _then_
   alone-same {table} h l = rw (h, eq-eqb (table .size) (length bytes) l)
 
@@ -308,7 +314,7 @@ body-more [] im = omega arith
 body-more (j ∷ ims) im = omega (arith, body-more ims im)
 
 -- a column that is read ends within the bytes
-column-inside : (column : ℕ) (bytes : List ℕ) {im : Image} → readColumn column bytes ≡ done im → columnLength bytes ≤ length bytes
+pub column-inside : (column : ℕ) (bytes : List ℕ) {im : Image} → readColumn column bytes ≡ done im → columnLength bytes ≤ length bytes
 unfolding readColumn columnLength
 column-inside column [] h = omega arith
 column-inside column (n ∷ bytes) {im} h = go (ltb (length bytes) n) refl h

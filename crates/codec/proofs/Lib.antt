@@ -2,6 +2,7 @@
 pub mod ListLaws
 pub mod BufferLaws
 pub mod ContentsLaws
+pub mod UnderLaws
 pub mod BodyLaws
 pub mod PacksTheorem
 pub mod UnpackLaws
@@ -10,6 +11,8 @@ pub mod OrderTheorem
 pub mod ColumnTheorem
 pub mod ReadBackTheorem
 pub mod AlphaLaws
+pub mod LineLaws
+pub mod FrontLaws
 pub mod TextLaws
 pub mod PartLaws
 pub mod FormLaws

@@ -3,8 +3,8 @@ use Prim.Native.Nat.{ℕ, zero, suc, _+_, _-_, _<_, _≤_}
 use mathlib.Core.Path.{_≡_, refl, ap, _∙_}
 use mathlib.Core.List.{List, [], _∷_, _++_}
 use native.Mathlib.Omega.{arith}
-use lib.Seq.{getD-append-add}
-use lib.ListN.{List·getD-append, length, getD, set}
+use lib.Seq.{getD-append-add, getD-take, drop-cons, length-take-le}
+use lib.ListN.{List·getD-append, length, take, drop, getD, set}
 use Rattle.codec.specs.Lists.{filled}
 
 module _ {A : Type 0} (d : A) where
@@ -36,6 +36,27 @@ module _ {A : Type 0} (d : A) where
   unfolding filled
   filled-same [] = refl
   filled-same (x ∷ xs) = ap (λ (l : List A). x ∷ l) (filled-same xs)
+
+  -- the first elements of an array that a list fills are the list
+  pub filled-front : (n : ℕ) (xs : List A) → length xs ≤ n → take (length xs) (filled n d xs) ≡ xs
+  unfolding filled
+  filled-front n [] h = refl
+  filled-front zero (x ∷ xs) h = absurd (omega arith)
+  filled-front (suc n) (x ∷ xs) h = ap (λ (l : List A). x ∷ l) (filled-front n xs (omega arith))
+
+  -- no default stands where the list is long enough
+  pub filled-take : (n : ℕ) (xs : List A) → n ≤ length xs → filled n d xs ≡ take n xs
+  unfolding filled
+  filled-take zero xs h = refl
+  filled-take (suc n) [] h = absurd (omega arith)
+  filled-take (suc n) (x ∷ xs) h = ap (λ (l : List A). x ∷ l) (filled-take n xs (omega arith))
+
+  -- the first elements of an array, from one of them on
+  pub taken-from :
+      (count : ℕ) (xs : List A) (k : ℕ) → k < count → count ≤ length xs → drop k (take count xs) ≡ getD xs k d ∷ drop (suc k) (take count xs)
+  taken-from count xs k here long =
+      drop-cons (take count xs) k d (omega (arith, length-take-le count xs long))
+      ∙ ap (λ (x : A). x ∷ drop (suc k) (take count xs)) (getD-take count xs k d here)
 
 -- an element of two lists put together, before the seam
 pub getD-before : (xs ys : List ℕ) (n i : ℕ) → length xs ≡ n → i < n → getD (xs ++ ys) i 0 ≡ getD xs i 0

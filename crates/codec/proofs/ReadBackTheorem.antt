@@ -89,7 +89,7 @@ unfolding unpackColumns _then_
 unpack-step column im ims bytes p q = rw (p, q)
 
 -- and the other way
-record UnpackStep (column : ℕ) (im : Image) (ims : List Image) (bytes : List ℕ) (ns : List Number) : Type 0 where
+pub record UnpackStep (column : ℕ) (im : Image) (ims : List Image) (bytes : List ℕ) (ns : List Number) : Type 0 where
   pub number : Number
   pub numbers : List Number
   pub first : unpackColumn column im (take (columnSize im) bytes) ≡ done number
@@ -97,7 +97,7 @@ record UnpackStep (column : ℕ) (im : Image) (ims : List Image) (bytes : List �
   pub joined : number ∷ numbers ≡ ns
 
 -- what columns that are read tell of the first
-unpack-view :
+pub unpack-view :
     (column : ℕ) (im : Image) (ims : List Image) (bytes : List ℕ) {ns : List Number}
     → unpackColumns column (im ∷ ims) bytes ≡ done ns
     → UnpackStep column im ims bytes ns
@@ -243,7 +243,7 @@ unfolding packList
 list-done ims ns same h = rw (eq-eqb (length ns) (length ims) same) h
 
 -- a body is read where it has its size and the columns are read
-body-view : (ims : List Image) (body : List ℕ) {ns : List Number} → unpackBody ims body ≡ done ns → (length body ≡ bodySize ims) × (unpackColumns 0 ims body ≡ done ns)
+pub body-view : (ims : List Image) (body : List ℕ) {ns : List Number} → unpackBody ims body ≡ done ns → (length body ≡ bodySize ims) × (unpackColumns 0 ims body ≡ done ns)
 unfolding unpackBody
 body-view ims body h =
     let p = pick-view (eqb (length body) (bodySize ims)) (unpackColumns 0 ims body) 11 0 h in (eqb-true (length body) (bodySize ims) (p .0), p .1)

@@ -1,5 +1,5 @@
 -- Laws of reading a body back: the digits of a column as one whole number, its parts, and the columns from the left. Assumes nothing.
-use Prim.Native.Nat.{ℕ, zero, suc, _+_, _-_, _*_, _/_, _%_, _^_, _<_, _≤_}
+use Prim.Native.Nat.{ℕ, suc, _+_, _-_, _*_, _/_, _%_, _^_, _<_, _≤_}
 use mathlib.Core.Path.{_≡_, refl, ap, sym, _∙_}
 use mathlib.Core.Logic.{⊎-elim}
 use mathlib.Core.List.{List, [], _∷_, _++_, append-nil, append-assoc}
@@ -24,14 +24,14 @@ use Rattle.decimal.specs.Truncation.{numberOf}
 use Rattle.decimal.proofs.BoolLaws.{and-true, zero-or-not}
 use Rattle.decimal.proofs.DigitLaws.{le-or-lt, value-append, value-below}
 use Rattle.decimal.proofs.PowerLaws.{pow10-suc, pow10-mono, times-ten}
-use Rattle.codec.specs.declared.contents.Contents.{Contents}
 use Rattle.codec.specs.declared.unpacking.UnpackAnswer.the-variants as gives
 use Rattle.codec.specs.declared.unpacking.Unpacked.{Unpacked}
 use Rattle.codec.specs.Lists.{filled, anyOf}
-use Rattle.codec.specs.Contents.{maxColumns, signCount, exponentCount, halfCount, padCount, columnSize, bodySize, Checked, AllChecked, noImage, readAlone}
-use Rattle.codec.proofs.ListLaws.{filled-length}
-use Rattle.codec.proofs.ContentsLaws.{ReadOk, alone-checked, alone-count, column-halves, column-few}
-use Rattle.codec.specs.Unpacking.{halvesOf, worthOf, allDigits, allZero, signPart, digitPart, exponentPart, padPart, minusBit, belowBit, saidBy, breaksRules, asHalf, partsNumber, halvesNumber, unpackColumn, unpackColumns, unpackBody, unpacking, unpackedOf, readOn, firstHalf, unpaddedNumber, runNumber, runLimit}
+use Rattle.codec.specs.Contents.{maxColumns, signCount, exponentCount, halfCount, padCount, columnSize, bodySize, Checked, noImage, readAlone, checkImages}
+use Rattle.codec.proofs.ListLaws.{filled-set}
+use Rattle.codec.proofs.ContentsLaws.{column-halves, column-few}
+use Rattle.codec.proofs.UnderLaws.{unpack-under-checked}
+use Rattle.codec.specs.Unpacking.{halvesOf, worthOf, allDigits, allZero, signPart, digitPart, exponentPart, padPart, minusBit, belowBit, saidBy, breaksRules, asHalf, partsNumber, halvesNumber, unpackColumn, unpackColumns, unpackBody, unpackUnder, unpacking, unpackedOf, readOn, firstHalf, unpaddedNumber, runNumber, runLimit}
 
 -- Reading digits on.
 
@@ -505,16 +505,6 @@ unfolding _then_
 then-twice (done rest) ns n = ap {B = Answer (List Number)} done (sym (append-snoc ns n rest))
 then-twice (refused number place) ns n = refl
 
--- the next element of an array
-filled-set :
-    {A : Type 0} (d : A) (n : ℕ) (xs : List A) (x : A)
-    → length xs < n
-    → set (filled n d xs) (length xs) x ≡ filled n d (xs ++ (x ∷ []))
-unfolding filled
-filled-set d zero xs x h = absurd (omega arith)
-filled-set d (suc n) [] x h = refl
-filled-set {A} d (suc n) (y ∷ xs) x h = ap (λ (l : List A). y ∷ l) (filled-set d n xs x (omega arith))
-
 -- so many columns are read: their numbers are in the array, and with those of the columns that are left they are the whole
 pub record Unpacking (ims : List Image) (body : List ℕ) (values : List Number) (start column : ℕ) : Type 0 where
   pub numbers : List Number
@@ -620,14 +610,7 @@ columns-answer {ims} {body} {values} {start} {column} {count} u all counts =
     λ i. record { answer = gives.Unpacks; numbers = record { values = u .stored i; count = many i } } in
     whole ∙ sym (ap unpackedOf (columns-end u (omega arith)))
 
--- A body under a contents.
-
--- the list that fills an array is its front
-filled-take : {A : Type 0} (d : A) (n : ℕ) (xs : List A) → length xs ≤ n → take (length xs) (filled n d xs) ≡ xs
-unfolding filled
-filled-take d n [] h = refl
-filled-take d zero (x ∷ xs) h = absurd (omega arith)
-filled-take {A} d (suc n) (x ∷ xs) h = ap (λ (l : List A). x ∷ l) (filled-take d n xs (omega arith))
+-- A body under a contents, and under images.
 
 -- a contents that is refused
 pub unpacking-refused :
@@ -635,36 +618,19 @@ pub unpacking-refused :
 unfolding unpacking _then_
 unpacking-refused contents body h = rw h
 
-module _ {contents : List ℕ} {r : Contents} (ok : ReadOk contents r) where
-  -- the columns that the code has read are those of the contents
-  read-images : take (r .count) (r .images) ≡ ok .table .images
-  read-images =
-      rw (ok .count, ok .images) (filled-take noImage maxColumns (ok .table .images) (alone-count contents (ok .reads) .1))
+module _ (ims : List Image) (body : List ℕ) where
+  -- images that are refused
+  pub under-refused : {number place : ℕ} → checkImages ims ≡ refused number place → unpackUnder ims body ≡ refused number place
+  unfolding unpackUnder _then_
+  under-refused h = rw h
 
-  -- a body of another length
-  pub unpacking-other : (body : List ℕ) → (length body ≡ r .body → ⊥) → unpacking contents body ≡ refused 11 0
-  unfolding unpacking unpackBody _then_
-  unpacking-other body other =
-      let differs : length body ≡ bodySize (ok .table .images) → ⊥ = λ e. other (e ∙ sym (ok .body)) in
-      rw (ok .reads, ne-eqb (length body) (bodySize (ok .table .images)) differs)
+  module _ (good : checkImages ims ≡ done tt) where
+    -- a body of another length
+    pub under-other : (length body ≡ bodySize ims → ⊥) → unpackUnder ims body ≡ refused 11 0
+    unfolding unpackBody
+    under-other other = unpack-under-checked ims body good ∙ rw (ne-eqb (length body) (bodySize ims) other)
 
-  module _ (body : List ℕ) (sized : length body ≡ r .body) where
     -- a body of its length
-    pub unpacking-columns : unpacking contents body ≡ unpackColumns 0 (take (r .count) (r .images)) body
-    unfolding unpacking unpackBody _then_
-    unpacking-columns =
-        let same : length body ≡ bodySize (ok .table .images) = sized ∙ ok .body in
-        rw (read-images, ok .reads, eq-eqb (length body) (bodySize (ok .table .images)) same)
-
-    -- what the code asks of its columns
-    pub columns-ready :
-        (length (r .images) ≡ maxColumns)
-        × (r .count ≤ maxColumns)
-        × AllChecked (take (r .count) (r .images))
-        × (length body ≡ bodySize (take (r .count) (r .images)))
-    columns-ready = (
-      ap length (ok .images) ∙ filled-length noImage maxColumns (ok .table .images),
-      omega (arith, ok .count, alone-count contents (ok .reads) .1),
-      rw read-images (alone-checked contents (ok .reads)),
-      rw read-images (sized ∙ ok .body),
-    )
+    pub under-columns : length body ≡ bodySize ims → unpackUnder ims body ≡ unpackColumns 0 ims body
+    unfolding unpackBody
+    under-columns same = unpack-under-checked ims body good ∙ rw (eq-eqb (length body) (bodySize ims) same)

@@ -10,7 +10,7 @@ use Rattle.decimal.specs.declared.number.Number.{Number}
 use Rattle.decimal.specs.Answer.{Answer, done, _then_, pick}
 use Rattle.decimal.specs.Digits.{digitsOf}
 use Rattle.decimal.specs.Number.{exponentLimit}
-use Rattle.decimal.specs.Image.{plusByte, minusByte, pointByte, readImage}
+use Rattle.decimal.specs.Image.{plusByte, minusByte, pointByte, imageBytes, readImage}
 use Rattle.decimal.specs.Truncation.{Truncated, truncation}
 use Rattle.codec.specs.Contents.{signCount}
 use Rattle.codec.specs.Body.{exponentSize, within}
@@ -54,9 +54,30 @@ alphaText im t =
     ++ (digitBytes (digitsOf (im .integer) (t .whole / 10 ^ im .fraction))
     ++ (fractionText (im .fraction) (t .whole) ++ exponentText (im .exponential) t))
 
--- the alpha text of a number under the bytes of an image: 1, 2, 3, 4, 5
+-- the alpha text of a number under an image: 1, 2, 3, 4, 5
+unfoldable pub alphaUnder : Image → Number → Answer (List ℕ)
+alphaUnder im n = truncation 0 im n then λ t. done (alphaText im t)
+
+-- the alpha text of a number under the bytes of an image
 unfoldable pub alphaOf : List ℕ → Number → Answer (List ℕ)
-alphaOf image n = readImage 0 image then λ im. (truncation 0 im n then λ t. done (alphaText im t))
+alphaOf image n = readImage 0 image then λ im. alphaUnder im n
+
+-- a list's alpha texts are those of its numbers, each under its column's image
+unfoldable pub alphaTexts : List Image → List Number → Answer (List (List ℕ))
+alphaTexts [] ns = done []
+alphaTexts (im ∷ ims) [] = done []
+alphaTexts (im ∷ ims) (n ∷ ns) =
+    alphaOf (imageBytes im) n then λ text. (alphaTexts ims ns then λ texts. done (text ∷ texts))
+
+-- texts parted by one blank
+unfoldable pub parted : List (List ℕ) → List ℕ
+parted [] = []
+parted (t ∷ []) = t
+parted (t ∷ (u ∷ us)) = t ++ (blankByte ∷ parted (u ∷ us))
+
+-- the call under an image, into a buffer with so much room: last 6
+unfoldable pub convertingUnder : Image → Number → ℕ → Answer (List ℕ)
+convertingUnder im n room = alphaUnder im n then within room
 
 -- the alpha call, into a buffer with so much room: last 6
 unfoldable pub converting : List ℕ → Number → ℕ → Answer (List ℕ)
@@ -85,3 +106,8 @@ tailLength im = fractionLength (im .fraction) + exponentLength (im .exponential)
 -- the length of a text, which is its image's
 unfoldable pub textLength : Image → ℕ
 textLength im = signCount (im .sign) + (im .integer + tailLength im)
+
+-- the length of texts under images, with one byte behind each
+unfoldable pub lineLength : List Image → ℕ
+lineLength [] = 0
+lineLength (im ∷ ims) = suc (textLength im) + lineLength ims

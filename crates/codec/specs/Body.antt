@@ -19,7 +19,7 @@ use Rattle.codec.specs.declared.body.Numbers.{Numbers}
 use Rattle.codec.specs.declared.body.WriteAnswer.{WriteAnswer}
 use Rattle.codec.specs.declared.body.WriteAnswer.the-variants as gives
 use Rattle.codec.specs.Lists.{filled}
-use Rattle.codec.specs.Contents.{readAlone, padCount}
+use Rattle.codec.specs.Contents.{readAlone, padCount, checkImages}
 
 -- |x|
 unfoldable pub exponentSize : Truncated → ℕ
@@ -74,6 +74,14 @@ bodyOf contents ns = readAlone contents then λ table. packList (table .images) 
 -- 6 where an answer is longer than the buffer
 unfoldable pub within : ℕ → List ℕ → Answer (List ℕ)
 within room bytes = pick (ltb room (length bytes)) (refused 6 0) (done bytes)
+
+-- a list under images that need not be a contents': refused as they are, then as a list under a contents
+unfoldable pub packUnder : List Image → List Number → Answer (List ℕ)
+packUnder ims ns = checkImages ims then λ _. packList ims ns
+
+-- the call that packs under images, into a buffer with so much room
+unfoldable pub packingUnder : List Image → List Number → ℕ → Answer (List ℕ)
+packingUnder ims ns room = packUnder ims ns then within room
 
 -- the packing call, into a buffer with so much room
 unfoldable pub packing : List ℕ → List Number → ℕ → Answer (List ℕ)

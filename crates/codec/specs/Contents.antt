@@ -9,7 +9,7 @@ use Rattle.decimal.specs.declared.image.Sign.the-variants.{Unsigned, Plus, Minu
 use Rattle.decimal.specs.declared.image.Image.{Image}
 use Rattle.decimal.specs.Answer.{Answer, done, refused, _then_, pick}
 use Rattle.decimal.specs.Digits.{precision}
-use Rattle.decimal.specs.Image.{hashes, readImage}
+use Rattle.decimal.specs.Image.{hashes, checkImage, readImage}
 use Rattle.codec.specs.declared.contents.Contents.{Contents}
 use Rattle.codec.specs.declared.contents.ContentsAnswer.the-variants as gives
 use Rattle.codec.specs.declared.contents.ColumnAnswer.{ColumnAnswer}
@@ -116,6 +116,19 @@ readAlone bytes = readContents bytes then λ table. pick (eqb (table .size) (len
 -- the image in the code's array behind the last column
 abbrev pub noImage : Image
 noImage = record { sign = Unsigned; integer = 0; fraction = 0; exponential = false }
+
+-- the list that the code's array of images and their count stand for
+unfoldable pub imageList : List Image → ℕ → List Image
+imageList images count = filled count noImage images
+
+-- each of these images can stand in a contents: 1 and 2 from the left
+unfoldable pub checkEach : ℕ → List Image → Answer (Unit {0})
+checkEach column [] = done tt
+checkEach column (im ∷ ims) = checkImage column im then λ _. checkEach (suc column) ims
+
+-- a contents can have these images: 10 for their count, then each from the left
+unfoldable pub checkImages : List Image → Answer (Unit {0})
+checkImages ims = pick (leb 1 (length ims) && leb (length ims) maxColumns) (checkEach 0 ims) (refused 10 0)
 
 -- the code's answer, of each answer
 unfoldable pub contentsOf : Answer Table → Contents

@@ -8,7 +8,7 @@ use lib.Dec.{ltb, leb, eqb}
 use Rattle.decimal.specs.declared.image.Sign.{Sign}
 use Rattle.decimal.specs.declared.image.Sign.the-variants.{Unsigned, Plus, Minus}
 use Rattle.decimal.specs.declared.number.Number.{Number}
-use Rattle.decimal.specs.Answer.{Answer, refused, pick}
+use Rattle.decimal.specs.Answer.{Answer, done, refused, _then_, pick}
 use Rattle.decimal.specs.Digits.{precision, Digits, valueOf}
 use Rattle.decimal.specs.Number.{exponentLimit, scaledNumber}
 use Rattle.decimal.specs.Image.{pointByte, signBytes, times, signOf}
@@ -164,6 +164,11 @@ beginningValue bytes = pick (eqb (legalLength bytes) 0) (refused 8 0) (textValue
 -- a whole text: 8 where it has not the form, ahead of 5
 unfoldable pub convertText : List ℕ → Answer Number
 convertText bytes = pick (eqb (legalLength bytes) (length bytes)) (beginningValue bytes) (refused 8 0)
+
+-- texts read back: each by converting the whole of it
+unfoldable pub readTexts : List (List ℕ) → Answer (List Number)
+readTexts [] = done []
+readTexts (text ∷ texts) = convertText text then λ t. (readTexts texts then λ ts. done (t ∷ ts))
 
 -- What the code's helpers ask and find.
 

@@ -18,7 +18,7 @@ use Rattle.codec.specs.declared.unpacking.Unpacked.{Unpacked}
 use Rattle.codec.specs.Lists.{filled, anyOf}
 use Rattle.codec.specs.declared.unpacking.Run.{Run}
 use Rattle.codec.specs.declared.unpacking.Run.the-variants as run
-use Rattle.codec.specs.Contents.{readAlone, maxColumns, signCount, exponentCount, halfCount, padCount, columnSize, bodySize}
+use Rattle.codec.specs.Contents.{readAlone, maxColumns, signCount, exponentCount, halfCount, padCount, columnSize, bodySize, checkImages}
 
 -- the half bytes of bytes, the high half first
 unfoldable pub halvesOf : List ℕ → List ℕ
@@ -116,6 +116,10 @@ unpackColumns column (im ∷ ims) bytes =
 -- a body under the images of a contents: 11 for a body of another length
 unfoldable pub unpackBody : List Image → List ℕ → Answer (List Number)
 unpackBody ims body = pick (eqb (length body) (bodySize ims)) (unpackColumns 0 ims body) (refused 11 0)
+
+-- a body under images that need not be a contents': refused as they are, then as a body under a contents
+unfoldable pub unpackUnder : List Image → List ℕ → Answer (List Number)
+unpackUnder ims body = checkImages ims then λ _. unpackBody ims body
 
 -- the unpacking call
 unfoldable pub unpacking : List ℕ → List ℕ → Answer (List Number)

@@ -11,7 +11,7 @@ ghost use Rattle.decimal.specs.Image.{plusByte, minusByte, hashes};
 ghost use Rattle.codec.specs.Lists.{storedIn};
 ghost use Rattle.codec.specs.Contents.{signCount};
 ghost use Rattle.codec.specs.Body.{sized, writeMeaning};
-ghost use Rattle.codec.specs.Alpha.{zeroByte, signText, exponentText, alphaText, converting};
+ghost use Rattle.codec.specs.Alpha.{zeroByte, signText, exponentText, alphaText, convertingUnder, converting};
 ghost use Rattle.codec.specs.Body.{heldBy, Held};
 ghost use Rattle.codec.specs.Alpha.{fractionLength, exponentLength, tailText, tailLength, textLength};
 use crate::body::NO_ROOM;
@@ -160,29 +160,35 @@ fn write_text(image: Image, truncation: Truncation, buffer: &mut [u8])
     }
 }
 
-// The alpha text of a number under an image, of the image's length, at the buffer's start; the bytes behind it stay.
+// The alpha text of a number under an image already read, of the image's length, at the buffer's start; the bytes behind it stay.
 // Refused with 1, 2, 3, 4, 5, 6 in this order; then no byte changes.
+pub fn write_alpha_under(image: Image, number: Number, buffer: &mut [u8]) -> WriteAnswer
+    ensures answer { λ r. ⌜ writeMeaning r ≡ sized (convertingUnder image number (length (now (buffer .entry)))) ⌝ }
+    ensures bytes { λ r. ⌜ now (buffer .exit) ≡ storedIn (convertingUnder image number (length (now (buffer .entry)))) (now (buffer .entry)) ⌝ }
+{
+    let truncation = truncate(image, number, 0);
+    let answer = truncation.answer;
+    if let FitAnswer::Refused(refusal) = answer {
+        return WriteAnswer::Refused(refusal);
+    }
+    let length = text_length(image);
+    if buffer.len() < length {
+        return WriteAnswer::Refused(Refusal {
+            number: NO_ROOM,
+            place: 0,
+        });
+    }
+    write_text(image, truncation, buffer);
+    WriteAnswer::Written(length)
+}
+
+// The alpha text of a number under the bytes of an image, as write_alpha_under writes it; refused first as the image is.
 pub fn write_alpha(image: &[u8], number: Number, buffer: &mut [u8]) -> WriteAnswer
     ensures answer { λ r. ⌜ writeMeaning r ≡ sized (converting (now (image .entry)) number (length (now (buffer .entry)))) ⌝ }
     ensures bytes { λ r. ⌜ now (buffer .exit) ≡ storedIn (converting (now (image .entry)) number (length (now (buffer .entry)))) (now (buffer .entry)) ⌝ }
 {
     match read_image(image, 0) {
         ImageAnswer::Refused(refusal) => WriteAnswer::Refused(refusal),
-        ImageAnswer::Image(read) => {
-            let truncation = truncate(read, number, 0);
-            let answer = truncation.answer;
-            if let FitAnswer::Refused(refusal) = answer {
-                return WriteAnswer::Refused(refusal);
-            }
-            let length = text_length(read);
-            if buffer.len() < length {
-                return WriteAnswer::Refused(Refusal {
-                    number: NO_ROOM,
-                    place: 0,
-                });
-            }
-            write_text(read, truncation, buffer);
-            WriteAnswer::Written(length)
-        }
+        ImageAnswer::Image(read) => write_alpha_under(read, number, buffer),
     }
 }

@@ -7,12 +7,13 @@ ghost use Rattle.decimal.specs.Answer.{Answer, pick};
 ghost use Rattle.decimal.specs.Number.{exponentLimit};
 ghost use Rattle.decimal.specs.Truncation.{Fit, fitMeaning, checkedOnly, truncatedTo};
 ghost use Rattle.codec.specs.Lists.{storedIn};
-ghost use Rattle.codec.specs.Contents.{maxColumns, columnSize, bodySize};
+ghost use Rattle.codec.specs.Contents.{maxColumns, columnSize, bodySize, imageList};
 ghost use Rattle.codec.specs.Body.{
   columnHalves,
   columnBytes,
   packColumns,
   packing,
+  packingUnder,
   AllPack,
   listOf,
   writeMeaning,
@@ -23,6 +24,8 @@ ghost use Rattle.codec.specs.Body.{
 };
 use crate::contents::COLUMNS;
 use crate::contents::ContentsAnswer;
+use crate::contents::body_size;
+use crate::contents::check_images;
 use crate::contents::column_size;
 use crate::contents::read_alone;
 use crate::contents::sign_count;
@@ -172,8 +175,36 @@ fn refused(number: u8) -> WriteAnswer
     WriteAnswer::Refused(Refusal { number, place: 0 })
 }
 
-// Packs a list under a contents lent alone into a buffer: the body stands at its start, and the bytes behind it stay.
-// Refused as the contents is, then with 10, items from the left with 3, 4, 5 and the column, last 6; then no byte changes.
+// Packs a list under images into a buffer: the body stands at its start, and the bytes behind it stay.
+// Refused as the images are, then with 10, items from the left with 3, 4, 5 and the column, last 6; then no byte changes.
+pub fn pack_under(
+    images: [Image; COLUMNS],
+    count: usize,
+    numbers: Numbers,
+    buffer: &mut [u8],
+) -> WriteAnswer
+    ensures answer { λ r. ⌜ writeMeaning r ≡ sized (packingUnder (imageList images count) (listOf numbers) (length (now (buffer .entry)))) ⌝ }
+    ensures bytes { λ r. ⌜ now (buffer .exit) ≡ storedIn (packingUnder (imageList images count) (listOf numbers) (length (now (buffer .entry)))) (now (buffer .entry)) ⌝ }
+{
+    if let FitAnswer::Refused(refusal) = check_images(images, count) {
+        return WriteAnswer::Refused(refusal);
+    }
+    if numbers.count != count {
+        return refused(LIST_LENGTH);
+    }
+    let values = numbers.values;
+    if let FitAnswer::Refused(refusal) = check_columns(images, count, values) {
+        return WriteAnswer::Refused(refusal);
+    }
+    let size = body_size(images, count);
+    if buffer.len() < size {
+        return refused(NO_ROOM);
+    }
+    write_columns(images, count, values, buffer);
+    WriteAnswer::Written(size)
+}
+
+// Packs a list under a contents lent alone into a buffer, as pack_under does; refused first as the contents is.
 pub fn pack(contents: &[u8], numbers: Numbers, buffer: &mut [u8]) -> WriteAnswer
     ensures answer { λ r. ⌜ writeMeaning r ≡ sized (packing (now (contents .entry)) (listOf numbers) (length (now (buffer .entry)))) ⌝ }
     ensures bytes { λ r. ⌜ now (buffer .exit) ≡ storedIn (packing (now (contents .entry)) (listOf numbers) (length (now (buffer .entry)))) (now (buffer .entry)) ⌝ }
@@ -183,17 +214,6 @@ pub fn pack(contents: &[u8], numbers: Numbers, buffer: &mut [u8]) -> WriteAnswer
     if let ContentsAnswer::Refused(refusal) = answer {
         return WriteAnswer::Refused(refusal);
     }
-    if numbers.count != table.count {
-        return refused(LIST_LENGTH);
-    }
     let images = table.images;
-    let values = numbers.values;
-    if let FitAnswer::Refused(refusal) = check_columns(images, table.count, values) {
-        return WriteAnswer::Refused(refusal);
-    }
-    if buffer.len() < table.body {
-        return refused(NO_ROOM);
-    }
-    write_columns(images, table.count, values, buffer);
-    WriteAnswer::Written(table.body)
+    pack_under(images, table.count, numbers, buffer)
 }

@@ -1,10 +1,14 @@
 // The table of contents: a byte with the count of columns, then per column a length byte and the image.
 ghost use mathlib.Core.Path.{_≡_};
 ghost use Prim.Native.Nat.{_≤_};
+ghost use lib.ListN.{take};
 ghost use Rattle.decimal.specs.Answer.{Answer};
 ghost use Rattle.decimal.specs.Digits.{precision};
 ghost use Rattle.decimal.specs.Image.{hashes};
+ghost use Rattle.decimal.specs.Truncation.{fitMeaning};
 ghost use Rattle.codec.specs.Contents.{signCount, exponentCount, halfCount, columnSize, columnAt, columnMeaning, readContents, readAlone, contentsOf};
+ghost use Rattle.codec.specs.Contents.{maxColumns, bodySize, AllChecked, imageList, checkImages};
+use decimal::FitAnswer;
 use decimal::Image;
 use decimal::ImageAnswer;
 use decimal::Refusal;
@@ -86,17 +90,61 @@ pub(crate) fn column_size(image: Image) -> usize
     (halves + halves % 2) / 2
 }
 
-// A refusal instead of a contents.
-fn refused(number: u8, place: usize) -> Contents
-    ensures { λ r. ⌜ r ≡ contentsOf (Answer.refused number place) ⌝ }
-{
-    Contents {
-        answer: ContentsAnswer::Refused(Refusal { number, place }),
-        images: [NO_IMAGE; COLUMNS],
-        count: 0,
-        size: 0,
-        body: 0,
+impl Contents {
+    // A refusal instead of a contents.
+    pub fn refused(number: u8, place: usize) -> Contents
+        ensures { λ r. ⌜ r ≡ contentsOf (Answer.refused number place) ⌝ }
+    {
+        Contents {
+            answer: ContentsAnswer::Refused(Refusal { number, place }),
+            images: [NO_IMAGE; COLUMNS],
+            count: 0,
+            size: 0,
+            body: 0,
+        }
     }
+}
+
+// The count of bytes in a body under images that a contents can have.
+pub(crate) fn body_size(images: [Image; COLUMNS], count: usize) -> usize
+    requires { ⌜ (count ≤ maxColumns) × AllChecked (take count images) ⌝ }
+    ensures { λ r. ⌜ r ≡ bodySize (take count images) ⌝ }
+{
+    let mut size = 0;
+    let mut column = 0;
+    while column < count {
+        let image = images[column];
+        size += column_size(image);
+        column += 1;
+    }
+    size
+}
+
+// Whether a contents can have these images: refused with 10 for their count, then from the left with 1 and 2.
+pub(crate) fn check_images(images: [Image; COLUMNS], count: usize) -> FitAnswer
+    ensures { λ r. ⌜ fitMeaning r ≡ checkImages (imageList images count) ⌝ }
+{
+    if count < 1 {
+        return FitAnswer::Refused(Refusal {
+            number: COLUMN_COUNT,
+            place: 0,
+        });
+    }
+    if COLUMNS < count {
+        return FitAnswer::Refused(Refusal {
+            number: COLUMN_COUNT,
+            place: 0,
+        });
+    }
+    let mut column = 0;
+    while column < count {
+        let image = images[column];
+        if let ImageAnswer::Refused(refusal) = image.checked(column) {
+            return FitAnswer::Refused(refusal);
+        }
+        column += 1;
+    }
+    FitAnswer::Fits
 }
 
 // The column whose length byte stands at a place: 11 where the bytes end inside it, then 1 and 2 for its image.
@@ -129,14 +177,14 @@ pub fn read_contents(bytes: &[u8]) -> Contents
     ensures { λ r. ⌜ r ≡ contentsOf (readContents (now (bytes .entry))) ⌝ }
 {
     if bytes.len() == 0 {
-        return refused(CUT_SHORT, 0);
+        return Contents::refused(CUT_SHORT, 0);
     }
     let count = bytes[0] as usize;
     if count < 1 {
-        return refused(COLUMN_COUNT, 0);
+        return Contents::refused(COLUMN_COUNT, 0);
     }
     if COLUMNS < count {
-        return refused(COLUMN_COUNT, 0);
+        return Contents::refused(COLUMN_COUNT, 0);
     }
     let mut images = [NO_IMAGE; COLUMNS];
     let mut at: usize = 1;
@@ -144,7 +192,10 @@ pub fn read_contents(bytes: &[u8]) -> Contents
     let mut column: usize = 0;
     while column < count {
         match read_column(bytes, at, column) {
-            ColumnAnswer::Refused(refusal) => return refused(refusal.number, refusal.place),
+            ColumnAnswer::Refused(refusal) => return Contents::refused(
+                refusal.number,
+                refusal.place,
+            ),
             ColumnAnswer::Column(image, next) => {
                 images[column] = image;
                 body += column_size(image);
@@ -174,7 +225,7 @@ pub fn read_alone(bytes: &[u8]) -> Contents
             if contents.size == bytes.len() {
                 contents
             } else {
-                refused(CUT_SHORT, 0)
+                Contents::refused(CUT_SHORT, 0)
             }
         }
     }

@@ -7,11 +7,13 @@ mod unpacking;
 mod worths;
 
 pub use alpha::write_alpha;
+pub use alpha::write_alpha_under;
 pub use body::LIST_LENGTH;
 pub use body::NO_ROOM;
 pub use body::Numbers;
 pub use body::WriteAnswer;
 pub use body::pack;
+pub use body::pack_under;
 pub use contents::COLUMN_COUNT;
 pub use contents::COLUMNS;
 pub use contents::CUT_SHORT;
@@ -27,3 +29,4 @@ pub use unpacking::BAD_HALF;
 pub use unpacking::UnpackAnswer;
 pub use unpacking::Unpacked;
 pub use unpacking::unpack;
+pub use unpacking::unpack_under;

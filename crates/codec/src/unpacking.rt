@@ -7,12 +7,14 @@ ghost use Rattle.decimal.specs.Answer.{Answer, pick};
 ghost use Rattle.decimal.specs.Digits.{precision};
 ghost use Rattle.decimal.specs.Image.{hashes};
 ghost use Rattle.decimal.specs.Number.{exponentLimit, numberMeaning};
-ghost use Rattle.codec.specs.Contents.{maxColumns, columnSize, bodySize, Checked, AllChecked};
-ghost use Rattle.codec.specs.Unpacking.{halvesOf, belowBit, breaksRules, partsNumber, unpackColumn, unpackColumns, unpacking, unpackedOf, runLimit, readOn, runMeaning, firstHalf, unpaddedNumber, runNumber};
+ghost use Rattle.codec.specs.Contents.{maxColumns, columnSize, bodySize, Checked, AllChecked, imageList};
+ghost use Rattle.codec.specs.Unpacking.{halvesOf, belowBit, breaksRules, partsNumber, unpackColumn, unpackColumns, unpackUnder, unpacking, unpackedOf, runLimit, readOn, runMeaning, firstHalf, unpaddedNumber, runNumber};
 use crate::body::Numbers;
 use crate::contents::COLUMNS;
 use crate::contents::CUT_SHORT;
 use crate::contents::ContentsAnswer;
+use crate::contents::body_size;
+use crate::contents::check_images;
 use crate::contents::column_size;
 use crate::contents::half_count;
 use crate::contents::read_alone;
@@ -20,6 +22,7 @@ use crate::contents::sign_count;
 use crate::worths::NO_WORTH;
 use crate::worths::worth;
 use decimal::EXPONENT_LIMIT;
+use decimal::FitAnswer;
 use decimal::Image;
 use decimal::Number;
 use decimal::NumberAnswer;
@@ -258,8 +261,21 @@ fn unpack_columns(images: [Image; COLUMNS], count: usize, body: &[u8]) -> Unpack
     }
 }
 
-// The numbers of a body under a contents lent alone.
-// Refused as the contents is, then with 11 for a body of another length, then from the left with 7 and the column.
+// The numbers of a body under images.
+// Refused as the images are, then with 11 for a body of another length, then from the left with 7 and the column.
+pub fn unpack_under(images: [Image; COLUMNS], count: usize, body: &[u8]) -> Unpacked
+    ensures { λ r. ⌜ r ≡ unpackedOf (unpackUnder (imageList images count) (now (body .entry))) ⌝ }
+{
+    if let FitAnswer::Refused(refusal) = check_images(images, count) {
+        return refused(refusal.number, refusal.place);
+    }
+    if body.len() != body_size(images, count) {
+        return refused(CUT_SHORT, 0);
+    }
+    unpack_columns(images, count, body)
+}
+
+// The numbers of a body under a contents lent alone, as unpack_under gives them; refused first as the contents is.
 pub fn unpack(contents: &[u8], body: &[u8]) -> Unpacked
     ensures { λ r. ⌜ r ≡ unpackedOf (unpacking (now (contents .entry)) (now (body .entry))) ⌝ }
 {
@@ -268,9 +284,6 @@ pub fn unpack(contents: &[u8], body: &[u8]) -> Unpacked
     if let ContentsAnswer::Refused(refusal) = answer {
         return refused(refusal.number, refusal.place);
     }
-    if body.len() != table.body {
-        return refused(CUT_SHORT, 0);
-    }
     let images = table.images;
-    unpack_columns(images, table.count, body)
+    unpack_under(images, table.count, body)
 }

@@ -21,7 +21,8 @@ use Rattle.decimal.proofs.TruncationLaws.{truncation-fit}
 use Rattle.codec.specs.Contents.{signCount}
 use Rattle.codec.specs.Body.{bodyOf}
 use Rattle.codec.specs.Order.{Truncations, none, one}
-use Rattle.codec.specs.Alpha.{alphaText, alphaOf, fractionLength, exponentLength, tailLength, textLength}
+use Rattle.codec.specs.Alpha.{alphaText, alphaUnder, alphaOf, alphaTexts, fractionLength, exponentLength, tailLength, textLength}
+use Rattle.codec.specs.Text.{readTexts}
 use Rattle.codec.proofs.ContentsLaws.{Both, then-done}
 use Rattle.codec.proofs.AlphaLaws.{image-length}
 use Rattle.codec.proofs.AlphaForm.{alpha-back}
@@ -32,7 +33,7 @@ use Rattle.records.specs.Scanning.{fieldLength}
 use Rattle.records.specs.Fields.{shownIn, numberIn, orField, spilledBy, elementBytes, elementSpills, readField}
 use Rattle.records.specs.Printing.{maxLine, literals, firstField, behindField, hasField, Print, andThen, oneField, printFrom}
 use Rattle.records.specs.Printing.{checkFields, checkElement, checkElements, checkSome, checkCounts, printed}
-use Rattle.records.specs.Demand.{alphaTexts, readTexts, printField, printFields, readFields, NoneSpilled, ReadBack, Demand3}
+use Rattle.records.specs.Demand.{printField, printFields, readFields, NoneSpilled, ReadBack, Demand3}
 use Rattle.records.specs.Demand as demand
 use Rattle.records.proofs.FieldTheorem.{image-field, image-whole}
 use Rattle.records.proofs.FieldBackTheorem.{field-back}
@@ -167,7 +168,7 @@ image-field-back im n {t} h =
 
 -- the alpha text of a number that an image truncates
 image-text : (im : Image) (n : Number) {t : Truncated} → truncation 0 im n ≡ done t → alphaOf (imageBytes im) n ≡ done (alphaText im t)
-unfolding alphaOf _then_
+unfolding alphaOf alphaUnder _then_
 image-text im n h =
     let fit = truncation-fit 0 im n h in
     let is : IsImage (imageBytes im) im = record { rendered = refl; nonempty = fit .nonempty } in

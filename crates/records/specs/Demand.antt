@@ -15,24 +15,11 @@ use Rattle.codec.specs.Contents.{Table, readAlone}
 use Rattle.codec.specs.Body.{bodyOf}
 use Rattle.codec.specs.Unpacking.{unpacking}
 use Rattle.codec.specs.Order.{AllUnsignedFixed, truncatedMagnitudes, FirstSmaller, Truncations}
-use Rattle.codec.specs.Alpha.{alphaOf}
-use Rattle.codec.specs.Text.{convertText}
+use Rattle.codec.specs.Alpha.{alphaTexts}
+use Rattle.codec.specs.Text.{readTexts}
 use Rattle.records.specs.declared.fields.Element.the-variants as element
 use Rattle.records.specs.Fields.{readField}
 use Rattle.records.specs.Printing.{Print, printed}
-
--- Alpha texts: "A list's alpha texts are those of its numbers, each under its column's image; each is read back by converting the whole
--- of it."
-
-unfoldable pub alphaTexts : List Image → List Number → Answer (List (List ℕ))
-alphaTexts [] ns = done []
-alphaTexts (im ∷ ims) [] = done []
-alphaTexts (im ∷ ims) (n ∷ ns) =
-    alphaOf (imageBytes im) n then λ text. (alphaTexts ims ns then λ texts. done (text ∷ texts))
-
-unfoldable pub readTexts : List (List ℕ) → Answer (List Number)
-readTexts [] = done []
-readTexts (text ∷ texts) = convertText text then λ t. (readTexts texts then λ ts. done (t ∷ ts))
 
 -- Print fields: "A column's print field is its image printed as the only field of a line without literal bytes, its number being the
 -- only element; it is read back by dropping blanks and commas and converting the whole of what is left."

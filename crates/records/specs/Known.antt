@@ -17,7 +17,7 @@ use Rattle.codec.specs.Body.{exponentSize, signHalf, signHalves, exponentHalves
 use Rattle.codec.specs.Body.{packList, bodyOf}
 use Rattle.codec.specs.Unpacking.{halvesOf, allDigits, allZero, signPart, digitPart, exponentPart, padPart, saidBy, breaksRules, asHalf}
 use Rattle.codec.specs.Unpacking.{partsNumber, halvesNumber, unpackColumn, unpackColumns, unpackBody, unpacking}
-use Rattle.codec.specs.Alpha.{blankByte, exponentByte, digitBytes, signText, fractionText, exponentText, alphaText, alphaOf}
+use Rattle.codec.specs.Alpha.{blankByte, exponentByte, digitBytes, signText, fractionText, exponentText, alphaText, alphaUnder, alphaOf}
 use Rattle.records.specs.declared.fields.Element.the-variants as element
 use Rattle.records.specs.Scanning.{longestFrom, fieldLength}
 use Rattle.records.specs.Fields.{signByteOf, fillByte, fillNext, fillBytes, shownIn, numberIn, orField, spilledBy, elementBytes}
@@ -124,7 +124,7 @@ unfolding oneColumn textUnder bodyUnder lineUnder signs# ups↑↑↑↑ times _
     exponentOutside storedExponent truncatedTo limited truncation packable packedTruncation numberOf columnSize bodySize readColumn
     columnLength readColumns columnsLength readContents readAlone exponentSize signHalf signHalves exponentHalves columnHalves packHalves
     columnBytes packColumns packList bodyOf halvesOf allDigits allZero signPart digitPart exponentPart padPart saidBy breaksRules asHalf
-    partsNumber halvesNumber unpackColumn unpackColumns unpackBody unpacking digitBytes signText fractionText exponentText alphaText alphaOf
+    partsNumber halvesNumber unpackColumn unpackColumns unpackBody unpacking digitBytes signText fractionText exponentText alphaText alphaUnder alphaOf
     longestFrom fieldLength signByteOf fillByte fillNext fillBytes shownIn numberIn orField spilledBy elementBytes elementSpills literals
     firstField behindField hasField andThen oneField printFrom checkFields checkElement checkElements checkSome checkCounts printed
 known-values =

@@ -1,3 +1,4 @@
+pub mod Writing
 pub mod Scanning
 pub mod KnownFields
 pub mod Fields

@@ -18,6 +18,7 @@ use Rattle.records.specs.declared.printing.PrintAnswer.the-variants as g
 use Rattle.records.specs.declared.printing.ForecastAnswer.{ForecastAnswer}
 use Rattle.records.specs.declared.printing.ForecastAnswer.the-variants as bound
 use Rattle.records.specs.declared.printing.Size.{Size}
+use Rattle.records.specs.Writing.{lineEnd}
 use Rattle.records.specs.Scanning.{fieldLength}
 use Rattle.records.specs.Fields.{elementBytes, elementSpills}
 
@@ -26,9 +27,6 @@ maxElements = 64
 
 abbrev pub maxLine : ℕ
 maxLine = 4096
-
-abbrev pub lineEnd : ℕ
-lineEnd = 0x0A
 
 -- The parts of a line: the literal bytes before its first field, that field, and what is behind it.
 

@@ -16,6 +16,7 @@ ghost use Rattle.records.specs.Fields.{nextDigit, signByteOf, fillByte, 
 ghost use Rattle.records.specs.Fields.{numberIn, orField, spilledBy, elementBytes, FieldReady, readField};
 ghost use Rattle.records.specs.Fields.{Fillable, hashCount};
 ghost use Rattle.records.specs.Printing.{checkElement};
+use crate::writing::write_bytes;
 use codec::NOT_TEXT;
 use codec::convert;
 use codec::write_alpha;
@@ -130,18 +131,6 @@ fn write_fixed(field: &[u8], image: Image, truncation: Truncation, buffer: &mut 
         let byte = field[j];
         buffer[at + j] = fill_byte(image, truncation, fill, byte);
         fill = fill_next(image, truncation, fill, byte);
-        j += 1;
-    }
-}
-
-// Copies bytes into the buffer, from a place on.
-pub(crate) fn write_bytes(bytes: &[u8], buffer: &mut [u8], at: usize)
-    requires { ⌜ at + length (now bytes) ≤ length (now buffer) ⌝ }
-    ensures { λ r. ⌜ now (buffer .exit) ≡ written (now (buffer .entry)) at (now (bytes .entry)) ⌝ }
-{
-    let mut j = 0;
-    while j < bytes.len() {
-        buffer[at + j] = bytes[j];
         j += 1;
     }
 }

@@ -2,6 +2,7 @@
 mod fields;
 mod printing;
 mod scanning;
+mod writing;
 
 pub use fields::Element;
 pub use fields::read_field;

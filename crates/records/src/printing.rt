@@ -29,9 +29,9 @@ ghost use Rattle.records.specs.Printing.{
 };
 use crate::fields::Element;
 use crate::fields::is_spilled;
-use crate::fields::write_bytes;
 use crate::fields::write_element;
 use crate::scanning::scan;
+use crate::writing::write_bytes;
 use decimal::FitAnswer;
 use decimal::NOT_NORMAL;
 use decimal::Number;

@@ -1,9 +1,10 @@
--- `unpack` meets its contract: the contents as it is read alone, then the body's length, then the columns. Assumes nothing.
+-- `unpack` meets its contract: refused as the contents is, else the body is read under its images. Assumes nothing.
 use mathlib.Core.Path.{ap, sym, _∙_}
 use borrow.Author.Needs.{needs}
 use Rattle.codec.specs.Unpacking.{unpackedOf}
-use Rattle.codec.proofs.ContentsLaws.{alone-read, alone-refused}
-use Rattle.codec.proofs.UnpackLaws.{unpacking-refused, unpacking-other, unpacking-columns, columns-ready}
+use Rattle.codec.proofs.ContentsLaws.{alone-refused}
+use Rattle.codec.proofs.UnderLaws.{unpacking-lent}
+use Rattle.codec.proofs.UnpackLaws.{unpacking-refused}
 use Rattle.codec.proofs.unpacking.unpack.Statement.{statement}
 use Rattle.codec.proofs.unpacking.unpack.Tie as tie
 
@@ -30,35 +31,18 @@ returns c =
 enum-told : tie.Need-enum-told
 enum-told c = search needs
 
-refused-requires-2 : tie.Need-refused-requires-2
-refused-requires-2 c κs = search needs
+unpack-under-requires : tie.Need-unpack-under-requires
+unpack-under-requires c κs = search needs
 
 returns-2 : tie.Need-returns-2
 returns-2 c =
-    let t = c .before in
-    let n = t .before .before in
-    let r = n .before .before in
-    let a = r .before .before .before .args in
-    let ok = alone-read (a .contents .now) (r .read-alone .result) (r .read-alone .ensures) (n .enum-told .given .1) in
-    c .refused2 .ensures ∙ sym (ap unpackedOf (unpacking-other ok (a .body .now) (t .if1 .taken)))
-
-unpack-columns-requires : tie.Need-unpack-columns-requires
-unpack-columns-requires c κs =
-    let t = c .before in
-    let n = t .before .before in
-    let r = n .before .before in
-    let a = r .before .before .before .args in
-    let ok = alone-read (a .contents .now) (r .read-alone .result) (r .read-alone .ensures) (n .enum-told .given .1) in
-    columns-ready ok (a .body .now) (t .if1 .left)
-
-returns-3 : tie.Need-returns-3
-returns-3 c =
     let t = c .before .before in
-    let n = t .before .before in
-    let r = n .before .before in
+    let r = t .before .before in
     let a = r .before .before .before .args in
-    let ok = alone-read (a .contents .now) (r .read-alone .result) (r .read-alone .ensures) (n .enum-told .given .1) in
-    c .unpack-columns .ensures ∙ sym (ap unpackedOf (unpacking-columns ok (a .body .now) (t .if1 .left)))
+    c .unpack-under .ensures
+    ∙ sym
+    (ap unpackedOf
+    (unpacking-lent (a .contents .now) (r .read-alone .result) (r .read-alone .ensures) (t .enum-told .given .1) (a .body .now)))
 
 pub unpack-spec : {M : Type 1} → statement M
 unpack-spec =
@@ -69,7 +53,5 @@ unpack-spec =
     refused-requires
     returns
     enum-told
-    refused-requires-2
-    returns-2
-    unpack-columns-requires
-    returns-3)
+    unpack-under-requires
+    returns-2)

@@ -12,7 +12,7 @@ use Rattle.decimal.specs.Number.{numberMeaning}
 use Rattle.codec.specs.Lists.{filled}
 use Rattle.codec.specs.Contents.{maxColumns, Checked, AllChecked, noImage}
 use Rattle.codec.specs.Unpacking.{unpackedOf}
-use Rattle.codec.proofs.ContentsLaws.{checked-at}
+use Rattle.codec.proofs.ContentsLaws.{checked-front}
 use Rattle.codec.proofs.UnpackLaws.{Unpacking, columns-start, column-inside, columns-refused, columns-turn, columns-answer}
 use Rattle.codec.proofs.unpacking.unpack_columns.Statement.{statement}
 use Rattle.codec.proofs.unpacking.unpack_columns.Tie as tie
@@ -28,7 +28,7 @@ module _ (images : List Image) (count column : ℕ) (sized : length images ≡ m
 
   -- its count of # signs is within the limits
   checked : AllChecked (take count images) → Checked (getD images column noImage)
-  checked all = rw picked (checked-at all column further)
+  checked all = checked-front images count column (omega arith) more all
 
 abbrev Inv-loop : tie.InvT-loop
 Inv-loop count body images values₀ at₀ column₀ values at column = Unpacking (take count images) body values at column

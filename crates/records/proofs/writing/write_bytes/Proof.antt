@@ -7,8 +7,8 @@ use lib.ListN.{length, getD, length-set}
 use lib.Seq.{paste, paste-zero}
 use Rattle.codec.proofs.BufferLaws.{written-pasted}
 use Rattle.records.proofs.FieldLaws.{paste-turn}
-use Rattle.records.proofs.fields.write_bytes.Statement.{statement}
-use Rattle.records.proofs.fields.write_bytes.Tie as tie
+use Rattle.records.proofs.writing.write_bytes.Statement.{statement}
+use Rattle.records.proofs.writing.write_bytes.Tie as tie
 
 abbrev Inv-loop : tie.InvT-loop
 Inv-loop bytes buffer₀ start j₀ buffer j =

@@ -2,8 +2,8 @@
 use mathlib.Core.Path.{refl}
 use Rattle.codec.specs.Lists.{filled}
 use Rattle.codec.specs.Contents.{contentsOf}
-use Rattle.codec.proofs.contents.refused.Statement.{statement}
-use Rattle.codec.proofs.contents.refused.Tie as tie
+use Rattle.codec.proofs.contents.Contents.refused.Statement.{statement}
+use Rattle.codec.proofs.contents.Contents.refused.Tie as tie
 
 returns : tie.Need-returns
 unfolding contentsOf filled

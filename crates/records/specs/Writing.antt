@@ -1,0 +1,25 @@
+-- Whole numbers in decimal, and the end of a line.
+use Prim.Native.Nat.{ℕ}
+use mathlib.Core.List.{List, [], _∷_}
+use lib.Dec.{eqb}
+use Rattle.decimal.specs.Answer.{pick}
+use Rattle.decimal.specs.Digits.{digitsOf}
+use Rattle.codec.specs.Alpha.{digitBytes}
+
+-- the byte that every line ends with
+abbrev pub lineEnd : ℕ
+lineEnd = 0x0A
+
+-- the digits of the largest whole number that the code holds: below 2^64
+abbrev pub wholeDigits : ℕ
+wholeDigits = 20
+
+-- digits without the zeros that they begin with, but never without the last digit
+unfoldable pub withoutZeros : List ℕ → List ℕ
+withoutZeros [] = []
+withoutZeros (d ∷ []) = d ∷ []
+withoutZeros (d ∷ (e ∷ ds)) = pick (eqb d 0) (withoutZeros (e ∷ ds)) (d ∷ (e ∷ ds))
+
+-- a whole number in decimal
+unfoldable pub decimalText : ℕ → List ℕ
+decimalText n = digitBytes (withoutZeros (digitsOf wholeDigits n))
