@@ -37,19 +37,6 @@ use Rattle.records.specs.Fields.{textIn, elementBytes, FieldReady, hashC
 use Rattle.records.specs.Printing.{checkElement}
 use Rattle.records.proofs.FieldTheorem.{field-image}
 
--- Bytes written one by one.
-
--- one more byte is written
-pub paste-turn :
-    (text first now : List ℕ) (start k : ℕ) {byte : ℕ}
-    → start + length text ≤ length first
-    → k < length text
-    → now ≡ paste first start text k
-    → byte ≡ getD text k 0
-    → set now (start + k) byte ≡ paste first start text (k + 1)
-paste-turn text first now start k room h e same =
-    rw (e, same, add-one k) (paste-suc first start text k 0 (omega arith) h)
-
 -- a byte of a list is the same for another default
 pub getD-same : (l : List ℕ) (j d e : ℕ) → j < length l → getD l j d ≡ getD l j e
 getD-same [] j d e h = absurd (omega arith)

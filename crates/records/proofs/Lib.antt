@@ -1,4 +1,5 @@
 -- The laws of layer 3, from the lowest up.
+pub mod WritingLaws
 pub mod ScanLaws
 pub mod FieldTails
 pub mod FieldRuns
@@ -12,3 +13,5 @@ pub mod ForecastTheorem
 pub mod SpilledTheorem
 pub mod PrintLaws
 pub mod DemandTheorem
+pub mod FileLaws
+pub mod FileTheorem

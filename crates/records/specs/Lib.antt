@@ -4,5 +4,7 @@ pub mod KnownFields
 pub mod Fields
 pub mod Printing
 pub mod Spilling
+pub mod Files
+pub mod Adding
 pub mod Known
 pub mod Demand

@@ -3,6 +3,7 @@ ghost use mathlib.Core.Path.{_≡_};
 ghost use Prim.Native.Nat.{_+_, _≤_};
 ghost use lib.ListN.{length};
 ghost use Rattle.codec.specs.Body.{written};
+ghost use Rattle.records.specs.Writing.{decimalText};
 
 // Copies bytes into the buffer, from a place on.
 pub(crate) fn write_bytes(bytes: &[u8], buffer: &mut [u8], at: usize)
@@ -13,5 +14,32 @@ pub(crate) fn write_bytes(bytes: &[u8], buffer: &mut [u8], at: usize)
     while j < bytes.len() {
         buffer[at + j] = bytes[j];
         j += 1;
+    }
+}
+
+// The count of digits of a whole number in decimal.
+pub(crate) fn decimal_length(value: usize) -> usize
+    ensures { λ r. ⌜ r ≡ length (decimalText value) ⌝ }
+{
+    let mut length = 1;
+    let mut rest = value / 10;
+    while 0 < rest {
+        length += 1;
+        rest /= 10;
+    }
+    length
+}
+
+// Writes a whole number in decimal, from a place of the buffer on.
+pub(crate) fn write_decimal(value: usize, buffer: &mut [u8], at: usize)
+    requires { ⌜ at + length (decimalText value) ≤ length (now buffer) ⌝ }
+    ensures { λ r. ⌜ now (buffer .exit) ≡ written (now (buffer .entry)) at (decimalText value) ⌝ }
+{
+    let mut rest = value;
+    let mut j = decimal_length(value);
+    while 0 < j {
+        j -= 1;
+        buffer[at + j] = b'0' + (rest % 10) as u8;
+        rest /= 10;
     }
 }

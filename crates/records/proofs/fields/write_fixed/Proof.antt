@@ -9,7 +9,8 @@ use Rattle.codec.specs.Body.{heldBy}
 use Rattle.codec.proofs.BufferLaws.{written-pasted}
 use Rattle.records.specs.declared.fields.Fill.{Fill}
 use Rattle.records.specs.Fields.{fillBytes, nothingFilled}
-use Rattle.records.proofs.FieldLaws.{paste-turn, Filling, filling-starts, filling-byte, filling-hash, filling-turns, fill-length}
+use Rattle.records.proofs.WritingLaws.{paste-turn}
+use Rattle.records.proofs.FieldLaws.{Filling, filling-starts, filling-byte, filling-hash, filling-turns, fill-length}
 use Rattle.records.proofs.fields.write_fixed.Statement.{statement}
 use Rattle.records.proofs.fields.write_fixed.Tie as tie
 

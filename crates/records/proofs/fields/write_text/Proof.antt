@@ -9,7 +9,7 @@ use Rattle.codec.specs.Lists.{filled}
 use Rattle.codec.specs.Alpha.{blankByte}
 use Rattle.codec.proofs.ListLaws.{filled-length, filled-at}
 use Rattle.codec.proofs.BufferLaws.{written-pasted}
-use Rattle.records.proofs.FieldLaws.{paste-turn}
+use Rattle.records.proofs.WritingLaws.{paste-turn}
 use Rattle.records.proofs.fields.write_text.Statement.{statement}
 use Rattle.records.proofs.fields.write_text.Tie as tie
 

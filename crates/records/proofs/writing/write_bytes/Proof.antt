@@ -6,7 +6,7 @@ use native.Mathlib.Omega.{arith}
 use lib.ListN.{length, getD, length-set}
 use lib.Seq.{paste, paste-zero}
 use Rattle.codec.proofs.BufferLaws.{written-pasted}
-use Rattle.records.proofs.FieldLaws.{paste-turn}
+use Rattle.records.proofs.WritingLaws.{paste-turn}
 use Rattle.records.proofs.writing.write_bytes.Statement.{statement}
 use Rattle.records.proofs.writing.write_bytes.Tie as tie
 
