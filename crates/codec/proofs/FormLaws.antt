@@ -51,46 +51,59 @@ unfolding partsIn
 reads-parts r =
     rw (r .reads-before, r .to-signed, r .reads-sign, r .to-digits, r .reads-integer, r .to-pointed, r .reads-fraction, r .to-powered, r .reads-power, r .to-left, r .reads-behind)
 
--- blanks at the end stop
-tail-stops : (n : ℕ) → Stops (times n blankByte)
-unfolding times
-tail-stops zero = stops-end
-tail-stops (suc n) = subst Stops (append-nil (times (suc n) blankByte)) (stops-blanks n [])
+-- Blanks and bytes behind them that end a text: what is read of it goes no further than its own blanks.
+pub record Ends (n : ℕ) (r : List ℕ) : Type 0 where
+  pub stops : Stops (times n blankByte ++ r)
+  pub no-power : powerIn (times n blankByte ++ r) ≡ noExponent
+  pub no-blank : blanksIn r ≡ 0
 
--- so do an exponent and blanks
-power-stops : (p : ExponentPart) (n : ℕ) → Stops (powerBytes p ++ times n blankByte)
+-- blanks, and bytes that begin with none
+pub ends-blanks : (n : ℕ) (r : List ℕ) → blanksIn r ≡ 0 → Ends (suc n) r
+ends-blanks n r h = record { stops = stops-blanks n r; no-power = power-blanks n r; no-blank = h }
+
+-- blanks at the end
+pub ends-last : (n : ℕ) → Ends n []
+unfolding times blanksIn
+ends-last zero = record { stops = stops-end; no-power = power-empty; no-blank = refl }
+ends-last (suc n) = ends-blanks n [] refl
+
+-- an exponent before what stops
+power-stops : (p : ExponentPart) (q : List ℕ) → Stops q → Stops (powerBytes p ++ q)
 unfolding powerBytes
-power-stops noExponent n = tail-stops n
-power-stops (exponent sign ds) n = stops-power sign ds (times n blankByte)
+power-stops noExponent q h = h
+power-stops (exponent sign ds) q h = stops-power sign ds q
 
--- the exponent before blanks is read
-power-back : (p : ExponentPart) → PowerLegal p → (n : ℕ) → powerIn (powerBytes p ++ times n blankByte) ≡ p
-unfolding powerBytes times
-power-back noExponent h zero = power-empty
-power-back noExponent h (suc n) = ap powerIn (sym (append-nil (times (suc n) blankByte))) ∙ power-blanks n []
-power-back (exponent sign ds) h n = power-exact sign ds h (times n blankByte) (tail-stops n)
+-- the exponent before what stops is read
+power-back : (p : ExponentPart) → PowerLegal p → (q : List ℕ) → Stops q → powerIn q ≡ noExponent → powerIn (powerBytes p ++ q) ≡ p
+unfolding powerBytes
+power-back noExponent h q stops none = none
+power-back (exponent sign ds) h q stops none = power-exact sign ds h q stops
 
--- blanks are counted
-tail-back : (n : ℕ) → blanksIn (times n blankByte) ≡ n
-unfolding blanksIn
-tail-back n = ap blanksIn (sym (append-nil (times n blankByte))) ∙ blanks-go n [] ∙ omega arith
-
--- a text reads to its parts
-text-reads : (t : TextParts) → Legal t → Reads (textBytes t) t
+-- bytes behind a text, part by part
+pub text-append : (t : TextParts) (r : List ℕ)
+    → textBytes t ++ r
+    ≡ times (t .before) blankByte
+    ++ (signBytes (t .sign)
+    ++ (digitBytes (t .integer) ++ (pointBytes (t .fraction) ++ (powerBytes (t .power) ++ (times (t .behind) blankByte ++ r)))))
 unfolding textBytes
-text-reads t legal =
-    let behind = times (t .behind) blankByte in
+text-append t r = simp append-assoc
+
+-- a text before bytes that end it reads to its parts
+text-reads : (t : TextParts) → Legal t → (r : List ℕ) → Ends (t .behind) r → Reads (textBytes t ++ r) t
+text-reads t legal r ends =
+    let behind = times (t .behind) blankByte ++ r in
     let powered = powerBytes (t .power) ++ behind in
     let pointed = pointBytes (t .fraction) ++ powered in
     let digits = digitBytes (t .integer) ++ pointed in
     let signed = signBytes (t .sign) ++ digits in
     let fs = fractionDigits (t .fraction) in
     let starts = starts-body (t .integer) (t .fraction) powered (legal .some) in
-    let stops = power-stops (t .power) (t .behind) in
+    let stops = power-stops (t .power) behind (ends .stops) in
     let sizes = length-append (t .integer) fs in
     let few = legal .few in
     let most = precision - length (t .integer) in
-    record {
+    rw (text-append t r)
+    (record {
       signed = signed;
       digits = digits;
       pointed = pointed;
@@ -107,29 +120,25 @@ text-reads t legal =
       to-pointed = drop-at (digitBytes (t .integer)) pointed (length (t .integer)) (digit-bytes-length (t .integer));
       reads-fraction = point-exact (t .fraction) (digits-right (t .integer) fs (legal .digits)) most (omega arith) powered stops;
       to-powered = drop-append-seam (pointBytes (t .fraction)) powered;
-      reads-power = power-back (t .power) (legal .powers) (t .behind);
+      reads-power = power-back (t .power) (legal .powers) behind (ends .stops) (ends .no-power);
       to-left = drop-append-seam (powerBytes (t .power)) behind;
-      reads-behind = tail-back (t .behind);
-    }
+      reads-behind = omega (arith, blanks-go (t .behind) r, ends .no-blank);
+    })
 
--- Published: the parts of a text are the ones that are read of it, so a text has these parts only.
+-- Published: the parts of a text are the ones that are read of it before bytes that end it.
+pub parts-before : (t : TextParts) → Legal t → (r : List ℕ) → Ends (t .behind) r → partsIn (textBytes t ++ r) ≡ t
+parts-before t legal r ends = reads-parts (text-reads t legal r ends)
+
+-- Published: and of it alone, so a text has these parts only.
 pub parts-of-form : {bytes : List ℕ} {t : TextParts} → HasForm bytes t → partsIn bytes ≡ t
-parts-of-form {bytes} {t} form = ap partsIn (form .written) ∙ reads-parts (text-reads t (form .legal))
+parts-of-form {bytes} {t} form =
+    ap partsIn (form .written ∙ sym (append-nil (textBytes t))) ∙ parts-before t (form .legal) [] (ends-last (t .behind))
 
 -- Published: bytes have the form with one list of parts at most.
 pub form-unique : {bytes : List ℕ} {t u : TextParts} → HasForm bytes t → HasForm bytes u → t ≡ u
 form-unique a b = sym (parts-of-form a) ∙ parts-of-form b
 
 -- What is read are the parts of a text.
-
--- bytes behind a text, part by part
-pub text-append : (t : TextParts) (r : List ℕ)
-    → textBytes t ++ r
-    ≡ times (t .before) blankByte
-    ++ (signBytes (t .sign)
-    ++ (digitBytes (t .integer) ++ (pointBytes (t .fraction) ++ (powerBytes (t .power) ++ (times (t .behind) blankByte ++ r)))))
-unfolding textBytes
-text-append t r = simp append-assoc
 
 -- the length of a text, part by part
 pub text-length : (t : TextParts)

@@ -18,3 +18,6 @@ pub mod PartLaws
 pub mod FormLaws
 pub mod LongestTheorem
 pub mod AlphaForm
+pub mod WalkLaws
+pub mod WalkTheorem
+pub mod WalkerLaws

@@ -110,6 +110,11 @@ pub stops-power : (sign : Sign) (ds r : List ℕ) → Stops (powerBytes (exponen
 unfolding powerBytes pointIn
 stops-power sign ds r = record { no-digits = λ most. digits-stop most exponentByte _ refl; no-point = λ most. refl }
 
+-- a byte that is neither a digit nor the point
+pub stops-byte : (b : ℕ) (r : List ℕ) → isDigit b ≡ false → (b ≡ pointByte → ⊥) → Stops (b ∷ r)
+unfolding pointIn
+stops-byte b r h other = record { no-digits = λ most. digits-stop most b r h; no-point = λ most. rw (ne-eqb b pointByte other) }
+
 -- A text's digits begin with neither a sign nor a blank.
 pub record Starts (r : List ℕ) : Type 0 where
   pub no-sign : signIn r ≡ Unsigned

@@ -5,3 +5,4 @@ pub mod Unpacking
 pub mod Order
 pub mod Alpha
 pub mod Text
+pub mod Walking

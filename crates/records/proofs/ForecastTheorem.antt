@@ -13,7 +13,7 @@ use Rattle.decimal.specs.Answer.{Answer, done, refused, _then_, pick}
 use Rattle.records.specs.declared.fields.Element.{Element}
 use Rattle.records.specs.Scanning.{Field, IsField, fieldLength}
 use Rattle.records.specs.Fields.{elementBytes}
-use Rattle.records.specs.Writing.{lineEnd}
+use Rattle.codec.specs.Walking.{lineEnd}
 use Rattle.records.specs.Printing.{literals, fromField, firstField, behindField, hasField, Print, andThen, oneField, printFrom, checkFields, checkElements, checkSome, checkCounts, printed}
 use Rattle.records.proofs.FieldTheorem.{longest-field}
 use Rattle.records.proofs.FieldLaws.{element-length}

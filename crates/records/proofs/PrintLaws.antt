@@ -25,7 +25,7 @@ use Rattle.records.specs.declared.fields.Element.the-variants as element
 use Rattle.records.specs.declared.printing.Size.{Size}
 use Rattle.records.specs.Scanning.{fieldLength}
 use Rattle.records.specs.Fields.{numberIn, spilledBy, elementBytes, elementSpills, FieldReady}
-use Rattle.records.specs.Writing.{lineEnd}
+use Rattle.codec.specs.Walking.{lineEnd}
 use Rattle.records.specs.Printing.{maxElements, maxLine, literals, fromField, firstField, behindField, hasField, Print, andThen, oneField, printFrom, checkFields, checkElements, checkSome, checkCounts, printed, roomFor, printing, elementList, countsOf, bytesOf, lineChecks, LineReady, SizeOf}
 use Rattle.records.proofs.FieldTheorem.{longest-field}
 use Rattle.records.specs.Printing.{Reached, afterField}

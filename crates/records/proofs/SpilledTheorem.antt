@@ -22,7 +22,7 @@ use Rattle.records.specs.declared.fields.Element.the-variants as element
 use Rattle.records.specs.declared.printing.PrintAnswer.the-variants as gives
 use Rattle.records.specs.Scanning.{fieldLength}
 use Rattle.records.specs.Fields.{shownIn, numberIn, orField, spilledBy, elementBytes, elementSpills, FieldReady}
-use Rattle.records.specs.Writing.{lineEnd}
+use Rattle.codec.specs.Walking.{lineEnd}
 use Rattle.records.specs.Printing.{literals, firstField, behindField, hasField, Print, andThen, oneField, printFrom}
 use Rattle.records.specs.Printing.{checkFields, checkElement, checkElements, checkSome, checkCounts, printed, roomFor, printing}
 use Rattle.records.specs.Printing.{Reached, atStart, afterField, Counts, printMeaning, countsOf}

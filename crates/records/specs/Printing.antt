@@ -18,7 +18,7 @@ use Rattle.records.specs.declared.printing.PrintAnswer.the-variants as g
 use Rattle.records.specs.declared.printing.ForecastAnswer.{ForecastAnswer}
 use Rattle.records.specs.declared.printing.ForecastAnswer.the-variants as bound
 use Rattle.records.specs.declared.printing.Size.{Size}
-use Rattle.records.specs.Writing.{lineEnd}
+use Rattle.codec.specs.Walking.{lineEnd}
 use Rattle.records.specs.Scanning.{fieldLength}
 use Rattle.records.specs.Fields.{elementBytes, elementSpills}
 

@@ -1,14 +1,10 @@
--- Whole numbers in decimal, and the end of a line.
+-- Whole numbers in decimal.
 use Prim.Native.Nat.{ℕ}
 use mathlib.Core.List.{List, [], _∷_}
 use lib.Dec.{eqb}
 use Rattle.decimal.specs.Answer.{pick}
 use Rattle.decimal.specs.Digits.{digitsOf}
 use Rattle.codec.specs.Alpha.{digitBytes}
-
--- the byte that every line ends with
-abbrev pub lineEnd : ℕ
-lineEnd = 0x0A
 
 -- the digits of the largest whole number that the code holds: below 2^64
 abbrev pub wholeDigits : ℕ

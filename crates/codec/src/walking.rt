@@ -1,0 +1,156 @@
+// Walking a text: a small record that refers to the lent text, and reading all text numbers of a text (document 01: Record file).
+ghost use mathlib.Core.Path.{_≡_};
+ghost use lib.ListN.{drop};
+ghost use Rattle.codec.specs.Text.{legalLength};
+ghost use Rattle.codec.specs.Walking.{readingMeaning, nextIn, numberPlace, stopBefore, walkedOf, walking, aheadOf, movedOn, skippedOn};
+use crate::body::Numbers;
+use crate::contents::COLUMNS;
+use crate::text::NOT_TEXT;
+use crate::text::Reading;
+use crate::text::read_text;
+use decimal::Number;
+use decimal::NumberAnswer;
+use decimal::Refusal;
+
+// A walk over a lent text: the text, and the place where it goes on.
+pub struct Walker<'a> {
+    text: &'a [u8],
+    place: usize,
+}
+
+// Why reading stopped: at the end, where no text number begins, at a number that is refused, or before one number too many.
+pub enum WalkAnswer {
+    End,
+    NoNumber,
+    Refused(Refusal),
+    TooMany,
+}
+
+// The text numbers that were read in order, and where and why reading stopped.
+pub struct Walked {
+    pub answer: WalkAnswer,
+    pub numbers: Numbers,
+    pub place: usize,
+}
+
+// The longest beginning from a place on that is a text number, and its number; 8 with no byte used where there is none, as at the end.
+fn read_at(text: &[u8], place: usize) -> Reading
+    ensures { λ r. ⌜ readingMeaning r ≡ nextIn (drop place (now (text .entry))) ⌝ }
+{
+    if text.len() <= place {
+        return Reading {
+            used: 0,
+            number: NumberAnswer::Refused(Refusal {
+                number: NOT_TEXT,
+                place: 0,
+            }),
+        };
+    }
+    read_text(&text[place..])
+}
+
+// The next place, from one on, where a text number begins; the text's end where there is none, a place past the end as it is.
+pub fn skip(text: &[u8], from: usize) -> usize
+    ensures { λ r. ⌜ r ≡ numberPlace (now (text .entry)) from ⌝ }
+{
+    let mut place = from;
+    while place < text.len() {
+        let reading = read_at(text, place);
+        if reading.used != 0 {
+            return place;
+        }
+        place += 1;
+    }
+    place
+}
+
+// Why no number is read at a place where so many bytes would be used.
+fn why_stopped(text: &[u8], place: usize, used: usize) -> WalkAnswer
+    requires { ⌜ used ≡ legalLength (drop place (now text)) ⌝ }
+    ensures { λ r. ⌜ r ≡ stopBefore (drop place (now (text .entry))) ⌝ }
+{
+    if text.len() <= place {
+        return WalkAnswer::End;
+    }
+    if used == 0 {
+        return WalkAnswer::NoNumber;
+    }
+    WalkAnswer::TooMany
+}
+
+// All text numbers of a text from a place on, in order, up to COLUMNS; slots past the count are zero.
+// A number refused with 5 has its index for its place.
+pub fn read_numbers(text: &[u8], from: usize) -> Walked
+    ensures { λ r. ⌜ r ≡ walkedOf (walking (now (text .entry)) from) ⌝ }
+{
+    let mut values = [Number::ZERO; COLUMNS];
+    let mut count = 0;
+    let mut place = from;
+    while count < COLUMNS {
+        let reading = read_at(text, place);
+        if reading.used == 0 {
+            let answer = why_stopped(text, place, 0);
+            return Walked {
+                answer,
+                numbers: Numbers { values, count },
+                place,
+            };
+        }
+        let number = reading.number;
+        match number {
+            NumberAnswer::Refused(refusal) => {
+                return Walked {
+                    answer: WalkAnswer::Refused(Refusal {
+                        number: refusal.number,
+                        place: count,
+                    }),
+                    numbers: Numbers { values, count },
+                    place,
+                };
+            }
+            NumberAnswer::Number(number) => {
+                values[count] = number;
+            }
+        }
+        place += reading.used;
+        count += 1;
+    }
+    let reading = read_at(text, place);
+    let answer = why_stopped(text, place, reading.used);
+    Walked {
+        answer,
+        numbers: Numbers { values, count },
+        place,
+    }
+}
+
+// A walker over a text, at its start.
+pub fn walk<'a>(text: &'a [u8]) -> Walker<'a>
+    ensures { λ r. ⌜ (r .text ≡ text .entry) × (r .place ≡ 0) ⌝ }
+{
+    Walker { text, place: 0 }
+}
+
+// The place where a walker goes on.
+pub fn place<'a>(walker: Walker<'a>) -> usize
+    ensures { λ r. ⌜ r ≡ walker .entry .place ⌝ }
+{
+    walker.place
+}
+
+// The next text number from a walker's place, with the bytes used, and the walker moved on behind them.
+pub fn next_number<'s, 'a>(walker: &'s mut Walker<'a>) -> Reading
+    ensures { λ r. ⌜ (readingMeaning r ≡ nextIn (aheadOf (now (walker .entry)))) × (now (walker .exit) ≡ movedOn (now (walker .entry))) ⌝ }
+{
+    let place = walker.place;
+    let reading = read_at(walker.text, place);
+    walker.place = place + reading.used;
+    reading
+}
+
+// A walker moved on to the next place where a text number begins.
+pub fn skip_ahead<'s, 'a>(walker: &'s mut Walker<'a>)
+    ensures { λ _. ⌜ now (walker .exit) ≡ skippedOn (now (walker .entry)) ⌝ }
+{
+    walker.place = skip(walker.text, walker.place);
+}
