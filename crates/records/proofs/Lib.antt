@@ -15,3 +15,7 @@ pub mod PrintLaws
 pub mod DemandTheorem
 pub mod FileLaws
 pub mod FileTheorem
+pub mod ReportLaws
+pub mod RecordLaws
+pub mod ListingLaws
+pub mod ListingTheorem

@@ -6,5 +6,6 @@ pub mod Printing
 pub mod Spilling
 pub mod Files
 pub mod Adding
+pub mod Listing
 pub mod Known
 pub mod Demand

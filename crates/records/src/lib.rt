@@ -1,6 +1,7 @@
 // Layer 3: print lines and record files (document 01: Print lines, Record file).
 mod fields;
 mod files;
+mod listing;
 mod printing;
 mod scanning;
 mod writing;
@@ -15,6 +16,10 @@ pub use files::add;
 pub use files::show;
 pub use files::shown_body;
 pub use files::write_contents;
+pub use listing::FILE_LENGTH;
+pub use listing::REPORT_LENGTH;
+pub use listing::list;
+pub use listing::report;
 pub use printing::ELEMENTS;
 pub use printing::ForecastAnswer;
 pub use printing::LINE_LENGTH;

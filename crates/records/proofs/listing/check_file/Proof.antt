@@ -1,0 +1,175 @@
+-- `check_file` meets its contract. The loop's invariant: whether the bodies from the place on can be read says whether all can.
+-- The measure is what is left of the file. Assumes nothing.
+use Prim.Native.Nat.{ℕ, _+_, _-_, _≤_}
+use mathlib.Core.Path.{_≡_, ap, sym, _∙_}
+use native.Mathlib.Omega.{arith}
+use borrow.Author.Needs.{needs}
+use lib.ListN.{length, take, drop}
+use Rattle.codec.specs.Contents.{bodySize, contentsOf}
+use Rattle.codec.specs.Unpacking.{unpackBody, unpackedOf}
+use Rattle.records.proofs.ListingLaws.{
+  FileHeld,
+  file-held,
+  file-refused,
+  part-unpacked,
+  unpack-refused,
+  unpack-read,
+  Checking,
+  checking-starts,
+  checking-inside,
+  checking-stops,
+  checking-turns,
+  checking-ends,
+}
+use Rattle.records.proofs.listing.check_file.Statement.{statement}
+use Rattle.records.proofs.listing.check_file.Tie as tie
+
+abbrev Inv-loop : tie.InvT-loop
+Inv-loop file table images at₀ at = (f : FileHeld file table) → Checking file (f .table) at
+
+abbrev μ-loop : tie.MeasureT-loop
+μ-loop file table images at₀ at = length file - at
+
+-- what was read of the file
+held : (c : tie.After-images Inv-loop μ-loop) → FileHeld (c .before .before .before .before .before .args .file .now) (c .before .before .before .read-file .result)
+held c =
+    let f = c .before .before .before in
+    file-held (f .before .before .args .file .now) (f .read-file .result) (f .read-file .ensures) (c .before .enum-told2 .given .1)
+
+-- what the bodies from the place on say
+checks :
+    (c : tie.At-loop Inv-loop μ-loop)
+    → Checking (c .before .before .before .before .before .before .args .file .now) (held (c .before) .table) (c .loop .at)
+checks c = c .loop .inv (held (c .before))
+
+-- the body at the place ends within the file
+inside :
+    (c : tie.In-loop Inv-loop μ-loop)
+    → c .before .loop .at + c .before .before .before .before .before .read-file .result .body
+    ≤ length (c .before .before .before .before .before .before .before .args .file .now)
+inside c =
+    let l = c .before in
+    let f = held (l .before) in
+    omega (arith, checking-inside (l .before .before .before .before .before .before .args .file .now) (f .table) (l .loop .at) (checks l) (c .loop-test .taken), f .held .body)
+
+-- it is read as the code reads it
+body-read :
+    (c : tie.After-unpack-under Inv-loop μ-loop)
+    → c .unpack-under .result
+    ≡ unpackedOf
+    (unpackBody (held (c .before .before .before .before .before) .table .images)
+    (take (bodySize (held (c .before .before .before .before .before) .table .images))
+    (drop (c .before .before .before .before .loop .at) (c .before .before .before .before .before .before .before .before .before .before .args .file .now))))
+body-read c =
+    let l = c .before .before .before .before in
+    let f = held (l .before) in
+    part-unpacked (f .table) (l .before .before .before .before .read-file .result) (f .held)
+    (l .before .before .before .before .before .before .args .file .now) (l .loop .at) (c .unpack-under .ensures)
+
+read-file-requires : tie.Need-read-file-requires Inv-loop μ-loop
+read-file-requires c κs = search needs
+
+enum-told : tie.Need-enum-told Inv-loop μ-loop
+enum-told c = search needs
+
+returns : tie.Need-returns Inv-loop μ-loop
+returns c =
+    let f = c .before .before in
+    file-refused (f .before .before .args .file .now) (f .read-file .result) _ (f .read-file .ensures) (c .enum-told .given .1)
+
+enum-told-2 : tie.Need-enum-told-2 Inv-loop μ-loop
+enum-told-2 c = search needs
+
+loop-holds : tie.Need-loop-holds Inv-loop μ-loop
+loop-holds c f = checking-starts (c .before .before .before .before .before .args .file .now) (f .reads) (f .held .size)
+
+add-end : tie.Need-add-end Inv-loop μ-loop
+add-end c = omega (arith, inside (c .before))
+
+sub-unpack-under : tie.Need-sub-unpack-under Inv-loop μ-loop
+sub-unpack-under c = omega arith
+
+part-unpack-under-start : tie.Need-part-unpack-under-start Inv-loop μ-loop
+part-unpack-under-start c = omega (arith, inside (c .before))
+
+part-unpack-under-end : tie.Need-part-unpack-under-end Inv-loop μ-loop
+part-unpack-under-end c = omega (arith, inside (c .before))
+
+unpack-under-requires : tie.Need-unpack-under-requires Inv-loop μ-loop
+unpack-under-requires c κs = search needs
+
+enum-known-found : tie.Need-enum-known-found Inv-loop μ-loop
+enum-known-found c = search needs
+
+refused-requires : tie.Need-refused-requires Inv-loop μ-loop
+refused-requires c κs = search needs
+
+returns-2 : tie.Need-returns-2 Inv-loop μ-loop
+returns-2 c =
+    let n = c .before .before in
+    let u = n .before .before in
+    let i = u .before .before .before in
+    let l = i .before in
+    let f = held (l .before) in
+    c .refused .ensures
+    ∙ sym
+    (ap contentsOf
+    (checking-stops (l .before .before .before .before .before .before .args .file .now) (f .table) (l .loop .at) (checks l) (i .loop-test .taken)
+    (unpack-refused _ (u .unpack-under .result) (body-read u) (n .found .given .0 .0) (n .found .given .1))))
+
+enum-told-3 : tie.Need-enum-told-3 Inv-loop μ-loop
+enum-told-3 c = search needs
+
+loop-less : tie.Need-loop-less Inv-loop μ-loop
+loop-less c =
+    let l = c .before .before .before .before .before .before in
+    let f = held (l .before) in
+    omega (arith, inside (c .before .before .before .before .before), f .held .body, f .some)
+
+loop-again : tie.Need-loop-again Inv-loop μ-loop
+loop-again c f =
+    let u = c .before .before in
+    let i = u .before .before .before in
+    let l = i .before in
+    checking-turns (l .before .before .before .before .before .before .args .file .now) (f .table) (l .loop .at) (l .loop .inv f) (i .loop-test .taken)
+    (f .held .sound .all)
+    (unpack-read _ (u .unpack-under .result)
+    (part-unpacked (f .table) (l .before .before .before .before .read-file .result) (f .held)
+    (l .before .before .before .before .before .before .args .file .now) (l .loop .at) (u .unpack-under .ensures))
+    (c .enum-told3 .given .1) .1)
+    (ap (λ (k : ℕ). l .loop .at + k) (f .held .body))
+
+returns-3 : tie.Need-returns-3 Inv-loop μ-loop
+returns-3 c =
+    let l = c .before in
+    let f = held (l .before) in
+    let r = l .before .before .before .before in
+    r .read-file .ensures
+    ∙ ap contentsOf
+    (f .reads
+    ∙ sym
+    (checking-ends (r .before .before .args .file .now) (f .table) (l .loop .at) (checks l) (f .some) (c .loop-test .left)))
+
+pub check-file-spec : {M : Type 1} → statement M
+check-file-spec =
+    tie.close
+    (tie.spec
+    Inv-loop
+    μ-loop
+    read-file-requires
+    enum-told
+    returns
+    enum-told-2
+    loop-holds
+    add-end
+    sub-unpack-under
+    part-unpack-under-start
+    part-unpack-under-end
+    unpack-under-requires
+    enum-known-found
+    refused-requires
+    returns-2
+    enum-told-3
+    loop-less
+    loop-again
+    returns-3)

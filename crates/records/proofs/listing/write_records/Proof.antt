@@ -1,0 +1,153 @@
+-- `write_records` meets its contract. The loop's invariant: the lines that are written, and those of the bodies from the place on, are
+-- all. The measure is what is left of the file. Assumes nothing.
+use Prim.Native.Nat.{ℕ, _+_, _-_, _≤_}
+use mathlib.Core.Path.{ap, _∙_}
+use native.Mathlib.Omega.{arith}
+use borrow.Author.Needs.{needs}
+use lib.ListN.{length}
+use Rattle.codec.proofs.BufferLaws.{written-length}
+use Rattle.records.specs.Listing.{linesOf}
+use Rattle.records.proofs.ListingLaws.{
+  ListedHeld,
+  listed-held,
+  Lining,
+  lining-starts,
+  lining-inside,
+  lining-room,
+  lining-turns,
+  lining-ends,
+  front-has,
+  front-line,
+}
+use Rattle.records.proofs.listing.write_records.Statement.{statement}
+use Rattle.records.proofs.listing.write_records.Tie as tie
+
+abbrev Inv-loop : tie.InvT-loop
+Inv-loop file table buffer₀ from images out₀ at₀ buffer out at =
+    (h : ListedHeld file table) → Lining file (h .table) buffer₀ from buffer out at
+
+abbrev μ-loop : tie.MeasureT-loop
+μ-loop file table buffer₀ from images out₀ at₀ buffer out at = length file - at
+
+-- what the code has of the file
+held : (s : tie.Start Inv-loop μ-loop) → ListedHeld (s .args .file .now) (s .args .table)
+held s = listed-held (s .args .file .now) (s .args .table) (s .pre .0)
+
+-- the lines that are written
+lines :
+    (c : tie.At-loop Inv-loop μ-loop)
+    → Lining (c .before .before .before .before .args .file .now) (held (c .before .before .before .before) .table)
+    (c .before .before .before .before .args .buffer .now) (c .before .before .before .before .args .from)
+    (c .loop .buffer) (c .loop .out) (c .loop .at)
+lines c = c .loop .inv (held (c .before .before .before .before))
+
+-- the body at the place ends within the file
+inside :
+    (c : tie.In-loop Inv-loop μ-loop)
+    → c .before .loop .at + c .before .before .before .before .before .args .table .body ≤ length (c .before .before .before .before .before .args .file .now)
+inside c =
+    let l = c .before in
+    let s = l .before .before .before .before in
+    let a = s .args in
+    let h = held s in
+    omega (
+      arith,
+      lining-inside (a .file .now) (h .table) (a .buffer .now) (a .from) (l .loop .buffer) (l .loop .out) (l .loop .at) (lines l) (c .loop-test .taken),
+      h .held .body,
+    )
+
+loop-holds : tie.Need-loop-holds Inv-loop μ-loop
+loop-holds c h =
+    let a = c .before .before .before .args in
+    lining-starts (a .file .now) (h .table) (h .lists) (a .buffer .now) (a .from) (h .held .size)
+
+add-end : tie.Need-add-end Inv-loop μ-loop
+add-end c = omega (arith, inside (c .before))
+
+sub-unpack-under : tie.Need-sub-unpack-under Inv-loop μ-loop
+sub-unpack-under c = omega arith
+
+part-unpack-under-start : tie.Need-part-unpack-under-start Inv-loop μ-loop
+part-unpack-under-start c = omega (arith, inside (c .before))
+
+part-unpack-under-end : tie.Need-part-unpack-under-end Inv-loop μ-loop
+part-unpack-under-end c = omega (arith, inside (c .before))
+
+unpack-under-requires : tie.Need-unpack-under-requires Inv-loop μ-loop
+unpack-under-requires c κs = search needs
+
+write-record-requires : tie.Need-write-record-requires Inv-loop μ-loop
+write-record-requires c κs =
+    let u = c .before .before .before in
+    let i = u .before .before .before in
+    let l = i .before in
+    let s = l .before .before .before .before in
+    let a = s .args in
+    let h = held s in
+    let line =
+    front-line (a .file .now) (a .table) h (a .buffer .now) (a .from) (l .loop .buffer) (l .loop .out) (l .loop .at) (lines l) (i .loop-test .taken)
+    (u .unpack-under .result) (u .unpack-under .ensures) in
+    let room =
+    lining-room (a .file .now) (h .table) (a .buffer .now) (a .from) (l .loop .buffer) (l .loop .out) (l .loop .at) (lines l) (i .loop-test .taken) (s .pre .1) in (
+      omega (arith, h .held .count, h .held .sound .high),
+      front-has (a .file .now) (a .table) h (a .buffer .now) (a .from) (l .loop .buffer) (l .loop .out) (l .loop .at) (lines l) (i .loop-test .taken)
+          (u .unpack-under .result) (u .unpack-under .ensures),
+      omega (arith, ap length line, room),
+    )
+
+loop-less : tie.Need-loop-less Inv-loop μ-loop
+loop-less c =
+    let i = c .before .before .before .before .before .before .before .before .before in
+    let h = held (i .before .before .before .before .before) in
+    omega (arith, inside i, h .held .body, h .lists .some)
+
+loop-again : tie.Need-loop-again Inv-loop μ-loop
+loop-again c h =
+    let w = c .before .before in
+    let u = w .before .before .before .before in
+    let i = u .before .before .before in
+    let l = i .before in
+    let s = l .before .before .before .before in
+    let a = s .args in
+    let v = l .loop .inv h in
+    lining-turns (a .file .now) (h .table) (a .buffer .now) (a .from) (l .loop .buffer) (l .loop .out) (l .loop .at) v (i .loop-test .taken) (s .pre .1)
+    (front-line (a .file .now) (a .table) h (a .buffer .now) (a .from) (l .loop .buffer) (l .loop .out) (l .loop .at) v (i .loop-test .taken)
+    (u .unpack-under .result) (u .unpack-under .ensures))
+    (w .write-record .ensures .0) (w .write-record .ensures .1)
+    (ap (λ (k : ℕ). l .loop .at + k) (h .held .body))
+
+same-length : tie.Need-same-length Inv-loop μ-loop
+same-length c =
+    let l = c .before in
+    let s = l .before .before .before .before in
+    let a = s .args in
+    let h = held s in
+    let e =
+    lining-ends (a .file .now) (h .table) (a .buffer .now) (a .from) (l .loop .buffer) (l .loop .out) (l .loop .at) (lines l) (h .lists .some) (c .loop-test .left) in
+    ap length (e .1) ∙ written-length (a .buffer .now) (a .from) (linesOf (a .file .now)) (s .pre .1)
+
+returns : tie.Need-returns Inv-loop μ-loop
+returns c =
+    let l = c .before in
+    let s = l .before .before .before .before in
+    let a = s .args in
+    let h = held s in
+    lining-ends (a .file .now) (h .table) (a .buffer .now) (a .from) (l .loop .buffer) (l .loop .out) (l .loop .at) (lines l) (h .lists .some) (c .loop-test .left)
+
+pub write-records-spec : {M : Type 1} → statement M
+write-records-spec =
+    tie.close
+    (tie.spec
+    Inv-loop
+    μ-loop
+    loop-holds
+    add-end
+    sub-unpack-under
+    part-unpack-under-start
+    part-unpack-under-end
+    unpack-under-requires
+    write-record-requires
+    loop-less
+    loop-again
+    same-length
+    returns)
