@@ -6,9 +6,9 @@ use native.Mathlib.Omega.{arith}
 use native.Mathlib.Nat.{zero-add}
 use lib.ListN.{length, take, drop, length-append, length-drop}
 use lib.Seq.{paste, take-at, drop-drop, drop-append-add, length-take-le, take-length}
-use Rattle.decimal.specs.Answer.{done}
+use Rattle.decimal.specs.Answer.{Answer, done, refused}
 use Rattle.codec.specs.Lists.{storedIn}
-use Rattle.codec.specs.Body.{written}
+use Rattle.codec.specs.Body.{sized, written}
 
 -- bytes copied one by one
 pub written-pasted : (b : List ℕ) (start : ℕ) (s : List ℕ) (n : ℕ) → n ≡ length s → paste b start s n ≡ written b start s
@@ -24,6 +24,14 @@ written-none b = refl
 pub written-stored : (b s : List ℕ) → written b 0 s ≡ storedIn (done s) b
 unfolding written storedIn
 written-stored b s = ap (λ (k : ℕ). s ++ drop k b) (zero-add (length s))
+
+-- Published: the length that a writing call answers is inside the buffer.
+pub stored-size : (a : Answer (List ℕ)) (b : List ℕ) {after : List ℕ} {size : ℕ} → done size ≡ sized a → after ≡ storedIn a b → size ≤ length after
+unfolding sized storedIn
+stored-size (done bytes) b {after} {size} told same =
+    let long : size ≡ length bytes = cc in
+    omega (arith, ap length same, length-append bytes (drop (length bytes) b))
+stored-size (refused number place) b {after} {size} told same = let z : _≡_ {A = ℕ} 0 1 = cc in absurd (omega arith)
 
 module _ (b : List ℕ) (start : ℕ) (s : List ℕ) where
   -- what stands up to the end of the bytes

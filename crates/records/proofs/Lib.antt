@@ -17,5 +17,6 @@ pub mod FileLaws
 pub mod FileTheorem
 pub mod ReportLaws
 pub mod RecordLaws
+pub mod LinesLaws
 pub mod ListingLaws
 pub mod ListingTheorem

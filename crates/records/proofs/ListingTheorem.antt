@@ -17,24 +17,20 @@ use Rattle.records.specs.Listing.{fileLines, listingOf, listing, maxFile
 use Rattle.codec.proofs.LineLaws.{line-bound}
 use Rattle.records.proofs.WritingLaws.{decimal-few}
 use Rattle.records.proofs.ReportLaws.{refusal-few, within-some, printed-few}
-use Rattle.records.proofs.ListingLaws.{FileListed, file-listed, listing-done, listing-length, report-long, report-short}
+use Rattle.records.proofs.LinesLaws.{FileListed, file-listed}
+use Rattle.records.proofs.ListingLaws.{listing-done, listing-length, report-long, report-short}
 
 -- the listing of a file whose bodies can all be read
-listed-bound : (file : List ℕ) (table : Table) → FileListed file table → length (listingOf table file (linesOf file)) ≤ 4 * length file + 64
-listed-bound file table l =
+listed-bound :
+    {file : List ℕ} {table : Table} → FileListed file table → length (listingOf table file (linesOf file)) ≤ 4 * length file + 64
+listed-bound {file} {table} l =
     let n : ℕ = recordCount table file in
     let line : ℕ = lineLength (table .images) in
     let body : ℕ = bodySize (table .images) in
     let same : table .size - 1 ≡ line = omega (arith, l .size) in
     let lines : n * (table .size - 1) ≡ n * line = ap (λ (k : ℕ). n * k) same in
     let most : n * line ≤ n * (4 * body) = mul-le-mul-left n (line-bound (l .sound .all)) in
-    omega (
-      arith,
-      listing-length file table l,
-      decimal-few (length (table .images)),
-      decimal-few n,
-      l .reaches,
-    )
+    omega (arith, listing-length l, decimal-few (length (table .images)), decimal-few n, l .reaches)
 
 -- a listing tells that the bodies can all be read
 checked-done : (file : List ℕ) {bytes : List ℕ} → listing file ≡ done bytes → (table : Table) × (checkedFile file ≡ done table)
@@ -44,7 +40,11 @@ checked-done file h =
     let two = then-done (fileLines (one .value) file) (λ (lines : List ℕ). done (listingOf (one .value) file lines)) (one .second) in
     (one .value, made (one .first) (two .first))
   where
-    made : {t : Table} {lines : List ℕ} → readFile file ≡ done t → fileLines t file ≡ done lines → (readFile file then λ t. (fileLines t file then λ lines. done t)) ≡ done t
+    made :
+        {t : Table} {lines : List ℕ}
+        → readFile file ≡ done t
+        → fileLines t file ≡ done lines
+        → (readFile file then λ t. (fileLines t file then λ lines. done t)) ≡ done t
     made p q = rw (p, q)
 
 -- Published: a listing is at most four times as long as the file, and 64 bytes.
@@ -52,9 +52,10 @@ pub listing-bound : (file : List ℕ) {bytes : List ℕ} → listing file ≡ do
 listing-bound file {bytes} h =
     let c = checked-done file h in
     let l = file-listed file (c .1) in
-    let both : _≡_ {A = Answer (List ℕ)} (done (listingOf (c .0) file (linesOf file))) (done bytes) = sym (listing-done file (c .0) l) ∙ h in
-    let same : listingOf (c .0) file (linesOf file) ≡ bytes = cc in
-    omega (arith, ap length same, listed-bound file (c .0) l)
+    let text : List ℕ = listingOf (c .0) file (linesOf file) in
+    let both : _≡_ {A = Answer (List ℕ)} (done text) (done bytes) = sym (listing-done l) ∙ h in
+    let same : text ≡ bytes = cc in
+    omega (arith, ap length same, listed-bound l)
 
 -- Published: what the program prints is at most four times as long as the longest file, and 64 bytes.
 pub report-bound : (input : List ℕ) → length (reportOf input) ≤ 4 * maxFile + 64

@@ -93,7 +93,11 @@ texts-at (more {im} {ims} c cs) (n ∷ ns) {texts} h (suc k) d e l =
     texts-at cs ns (s .rest) k d e (omega arith) ∙ ap (λ (x : List (List ℕ)). done (getD x (suc k) [])) (s .joined)
 
 -- the call that writes it, where there is room
-text-converted : (im : Image) (n : Number) (room : ℕ) {text : List ℕ} → alphaUnder im n ≡ done text → length text ≤ room → convertingUnder im n room ≡ done text
+text-converted :
+    (im : Image) (n : Number) (room : ℕ) {text : List ℕ}
+    → alphaUnder im n ≡ done text
+    → length text ≤ room
+    → convertingUnder im n room ≡ done text
 unfolding convertingUnder _then_
 text-converted im n room {text} h l = rw h (within-some room text l)
 
@@ -112,113 +116,130 @@ pub record Separated (texts : List (List ℕ)) (buffer : List ℕ) (start : ℕ)
   pub ends : out ≡ start + length (parted (take k texts) ++ separator k)
   pub holds : now ≡ written buffer start (parted (take k texts) ++ separator k)
 
-module _ (texts : List (List ℕ)) (buffer : List ℕ) (start : ℕ) where
-  -- at the first text
-  pub texting-starts : Texting texts buffer start buffer start 0
-  unfolding parted
-  texting-starts = record { ends = omega arith; holds = written-empty buffer start }
+-- at the first text
+pub texting-starts : (texts : List (List ℕ)) (buffer : List ℕ) (start : ℕ) → Texting texts buffer start buffer start 0
+unfolding parted
+texting-starts texts buffer start = record { ends = omega arith; holds = written-empty buffer start }
 
-  module _ (room : start + length (recordLine texts) ≤ length buffer) (now : List ℕ) (out k : ℕ) where
-    -- the length of what is written and of what follows
-    texts-room :
-        k < length texts
-        → length (parted (take k texts)) + length (separator k) + length (getD texts k []) < length (recordLine texts)
-    texts-room h =
-        omega (
-          arith,
-          ap length (parted-next k texts h),
-          length-append (parted (take k texts) ++ separator k) (getD texts k []),
-          length-append (parted (take k texts)) (separator k),
-          parted-few (suc k) texts,
-          line-length texts,
-        )
+-- the length of what is written and of the next text
+texts-room :
+    (texts : List (List ℕ)) (k : ℕ)
+    → k < length texts
+    → length (parted (take k texts)) + length (separator k) + length (getD texts k []) < length (recordLine texts)
+texts-room texts k h =
+    omega (
+      arith,
+      ap length (parted-next k texts h),
+      length-append (parted (take k texts) ++ separator k) (getD texts k []),
+      length-append (parted (take k texts)) (separator k),
+      parted-few (suc k) texts,
+      line-length texts,
+    )
 
-    module _ (t : Texting texts buffer start now out k) where
-      -- the buffer keeps its length
-      pub texting-length : length now ≡ length buffer
-      texting-length =
-          kept-length buffer start (parted (take k texts)) (t .holds) (t .ends) (omega (arith, t .ends, parted-few k texts, line-length texts))
+module _
+    {texts : List (List ℕ)} {buffer : List ℕ} {start : ℕ} {now : List ℕ} {out k : ℕ}
+    (t : Texting texts buffer start now out k)
+    (room : start + length (recordLine texts) ≤ length buffer) where
+  -- the buffer keeps its length
+  pub texting-kept : length now ≡ length buffer
+  texting-kept =
+      let few = parted-few k texts in
+      let size = line-length texts in
+      kept-length buffer start (parted (take k texts)) (t .holds) (t .ends) (omega (arith, t .ends))
 
-      -- there is room for one byte more
-      pub texting-room : out < length now
-      texting-room = omega (arith, texting-length, t .ends, parted-few k texts, line-length texts)
+  -- there is room for one byte more
+  pub texting-room : out < length now
+  texting-room = omega (arith, texting-kept, t .ends, parted-few k texts, line-length texts)
 
-      -- nothing stands before the first text
-      pub separated-first : k ≡ 0 → {then-now : List ℕ} {then-out : ℕ} → then-now ≡ now → then-out ≡ out → Separated texts buffer start then-now then-out k
-      unfolding separator
-      separated-first e p q =
-          let same : parted (take k texts) ≡ parted (take k texts) ++ separator k =
-          sym (append-nil (parted (take k texts))) ∙ ap (λ (j : ℕ). parted (take k texts) ++ separator j) (sym e) in
-          record {
-            ends = q ∙ t .ends ∙ ap (λ (l : List ℕ). start + length l) same;
-            holds = p ∙ t .holds ∙ ap (λ (l : List ℕ). written buffer start l) same;
-          }
+  -- nothing stands before the first text
+  pub separated-first :
+      k ≡ 0
+      → {then-now : List ℕ} {then-out : ℕ}
+      → then-now ≡ now
+      → then-out ≡ out
+      → Separated texts buffer start then-now then-out k
+  unfolding separator
+  separated-first e p q =
+      let same : parted (take k texts) ≡ parted (take k texts) ++ separator k =
+      sym (append-nil (parted (take k texts))) ∙ ap (λ (j : ℕ). parted (take k texts) ++ separator j) (sym e) in
+      record {
+        ends = q ∙ t .ends ∙ ap (λ (l : List ℕ). start + length l) same;
+        holds = p ∙ t .holds ∙ ap (λ (l : List ℕ). written buffer start l) same;
+      }
 
-      -- and a blank before each other
-      pub separated-next :
-          0 < k → {then-now : List ℕ} {then-out : ℕ} → then-now ≡ set now out blankByte → then-out ≡ out + 1 → Separated texts buffer start then-now then-out k
-      separated-next h p q =
-          let same : parted (take k texts) ++ (blankByte ∷ []) ≡ parted (take k texts) ++ separator k =
-          ap (λ (l : List ℕ). parted (take k texts) ++ l) (sym (separator-blank k h)) in
-          record {
-            ends = omega (arith, q, t .ends, ap length same, length-append (parted (take k texts)) (blankByte ∷ []));
-            holds =
-                p
-                ∙ next-byte buffer start (parted (take k texts)) (t .holds) (t .ends) blankByte (omega (arith, texting-room, texting-length))
-                ∙ ap (λ (l : List ℕ). written buffer start l) same;
-          }
+  -- and a blank before each other
+  pub separated-next :
+      0 < k
+      → {then-now : List ℕ} {then-out : ℕ}
+      → then-now ≡ set now out blankByte
+      → then-out ≡ out + 1
+      → Separated texts buffer start then-now then-out k
+  separated-next h p q =
+      let front : List ℕ = parted (take k texts) in
+      let same : front ++ (blankByte ∷ []) ≡ front ++ separator k = ap (λ (l : List ℕ). front ++ l) (sym (separator-blank k h)) in
+      record {
+        ends = omega (arith, q, t .ends, ap length same, length-append front (blankByte ∷ []));
+        holds =
+            p
+            ∙ next-byte buffer start front (t .holds) (t .ends) blankByte (omega (arith, texting-room, texting-kept))
+            ∙ ap (λ (l : List ℕ). written buffer start l) same;
+      }
 
-      -- all texts and the end of the line
-      pub texting-ends :
-          k ≡ length texts
-          → (out + 1 ≡ start + length (recordLine texts)) × (set now out lineEnd ≡ written buffer start (recordLine texts))
-      unfolding recordLine
-      texting-ends e =
-          let all : parted (take k texts) ≡ parted texts = ap parted (take-all k texts (omega arith)) in
-          let line : parted (take k texts) ++ (lineEnd ∷ []) ≡ recordLine texts = ap (λ (l : List ℕ). l ++ (lineEnd ∷ [])) all in (
-            omega (arith, t .ends, ap length all, line-length texts),
-            next-byte buffer start (parted (take k texts)) (t .holds) (t .ends) lineEnd (omega (arith, texting-room, texting-length))
-                ∙ ap (λ (l : List ℕ). written buffer start l) line,
-          )
+  -- all texts and the end of the line
+  pub texting-ends :
+      k ≡ length texts
+      → (out + 1 ≡ start + length (recordLine texts)) × (set now out lineEnd ≡ written buffer start (recordLine texts))
+  unfolding recordLine
+  texting-ends e =
+      let front : List ℕ = parted (take k texts) in
+      let all : front ≡ parted texts = ap parted (take-all k texts (omega arith)) in (
+        omega (arith, t .ends, ap length all, line-length texts),
+        next-byte buffer start front (t .holds) (t .ends) lineEnd (omega (arith, texting-room, texting-kept))
+            ∙ ap (λ (l : List ℕ). written buffer start (l ++ (lineEnd ∷ []))) all,
+      )
 
-    module _ (s : Separated texts buffer start now out k) (h : k < length texts) where
-      -- the length of what is written so far
-      separated-length : length (parted (take k texts) ++ separator k) ≡ length (parted (take k texts)) + length (separator k)
-      separated-length = length-append (parted (take k texts)) (separator k)
+module _
+    {texts : List (List ℕ)} {buffer : List ℕ} {start : ℕ} {now : List ℕ} {out k : ℕ}
+    (s : Separated texts buffer start now out k)
+    (room : start + length (recordLine texts) ≤ length buffer)
+    (h : k < length texts) where
+  -- the length of what is written so far
+  separated-length : length (parted (take k texts) ++ separator k) ≡ length (parted (take k texts)) + length (separator k)
+  separated-length = length-append (parted (take k texts)) (separator k)
 
-      -- the buffer keeps its length
-      pub separated-kept : length now ≡ length buffer
-      separated-kept =
-          kept-length buffer start (parted (take k texts) ++ separator k) (s .holds) (s .ends) (omega (arith, s .ends, separated-length, texts-room h))
+  -- the buffer keeps its length
+  pub separated-kept : length now ≡ length buffer
+  separated-kept =
+      let fits = texts-room texts k h in
+      kept-length buffer start (parted (take k texts) ++ separator k) (s .holds) (s .ends) (omega (arith, s .ends, separated-length))
 
-      -- there is room for the text
-      pub separated-room : out + length (getD texts k []) ≤ length now
-      separated-room = omega (arith, s .ends, separated-length, texts-room h, separated-kept)
+  -- there is room for the text
+  pub separated-room : out + length (getD texts k []) ≤ length now
+  separated-room = omega (arith, s .ends, separated-length, texts-room texts k h, separated-kept)
 
-      -- it is written
-      pub texting-turns :
-          {then-out : ℕ} {then-now : List ℕ}
-          → then-out ≡ out + length (getD texts k [])
-          → then-now ≡ written now out (getD texts k [])
-          → Texting texts buffer start then-now then-out (k + 1)
-      texting-turns e w =
-          let next = parted-next k texts h in
-          let more : parted (take (k + 1) texts) ≡ (parted (take k texts) ++ separator k) ++ getD texts k [] =
-          ap (λ (j : ℕ). parted (take j texts)) (add-one k) ∙ next in
-          record {
-            ends =
-                omega (arith, e, s .ends, ap length more, length-append (parted (take k texts) ++ separator k) (getD texts k []));
-            holds =
-                w
-                ∙ next-bytes buffer start (parted (take k texts) ++ separator k) (s .holds) (s .ends) (getD texts k [])
-                (omega (arith, s .ends, separated-length, texts-room h))
-                ∙ ap (λ (l : List ℕ). written buffer start l) (sym more);
-          }
+  -- it is written
+  pub texting-turns :
+      {then-out : ℕ} {then-now : List ℕ}
+      → then-out ≡ out + length (getD texts k [])
+      → then-now ≡ written now out (getD texts k [])
+      → Texting texts buffer start then-now then-out (k + 1)
+  texting-turns e w =
+      let front : List ℕ = parted (take k texts) ++ separator k in
+      let text : List ℕ = getD texts k [] in
+      let more : parted (take (k + 1) texts) ≡ front ++ text =
+      ap (λ (j : ℕ). parted (take j texts)) (add-one k) ∙ parted-next k texts h in
+      record {
+        ends = omega (arith, e, s .ends, ap length more, length-append front text);
+        holds =
+            w
+            ∙ next-bytes buffer start front (s .holds) (s .ends) text (omega (arith, separated-room, separated-kept))
+            ∙ ap (λ (l : List ℕ). written buffer start l) (sym more);
+      }
 
 -- The texts of the numbers of an array, each under its image.
 module _ (images : List Image) (values : List Number) (count : ℕ) (has : HasTexts (take count images) (take count values)) where
   -- the texts
-  abbrev pub textsOf : List (List ℕ)
+  abbrev textsOf : List (List ℕ)
   textsOf = given (alphaTexts (take count images) (take count values))
 
   -- they exist

@@ -5,7 +5,7 @@ ghost use lib.Dec.{ltb};
 ghost use lib.ListN.{length, take};
 ghost use Rattle.decimal.specs.Answer.{Answer};
 ghost use Rattle.codec.specs.Lists.{storedIn};
-ghost use Rattle.codec.specs.Contents.{maxColumns, AllChecked, contentsOf};
+ghost use Rattle.codec.specs.Contents.{maxColumns, contentsOf};
 ghost use Rattle.codec.specs.Body.{within, written, sized, writeMeaning};
 ghost use Rattle.codec.specs.Alpha.{alphaTexts};
 ghost use Rattle.records.specs.Listing.{
@@ -40,8 +40,8 @@ use decimal::Refusal;
 // The most bytes of a file that the listing program takes.
 pub const FILE_LENGTH: usize = 65536;
 
-// The most bytes that a report has: 4 * FILE_LENGTH + 64.
-pub const REPORT_LENGTH: usize = 262208;
+// The most bytes that a report has.
+pub const REPORT_LENGTH: usize = 4 * FILE_LENGTH + 64;
 
 // The bytes of a line with a word of 7 bytes, a blank and a count, without the count's digits.
 const COUNT_LINE: usize = 9;

@@ -1,175 +1,231 @@
-// Prints rows of document 01's Known values and the worked examples of the manual's pages CONVERT and NUM (source 000).
-// A row of the first kind is an image, a number, its alpha text between quotes, and the body of a record with this one column; or a
-// refusal's number and place. A row of the second kind is a text between quotes, its legal length, and its number in normal form.
-use codec::Numbers;
-use codec::WriteAnswer;
-use decimal::Number;
-use decimal::NumberAnswer;
-use decimal::Refusal;
-use libc::STDOUT_FILENO;
+// Prints the rows of document 01's Known values and the worked examples of the manuals: source 000 (Wang 2200 A/B), and sources 001
+// (Wang 3300) and 004 (Wang 2200VS) where their rules are document 01's. Beside a row stands its page and, where the manual prints
+// something else, the misprint or the difference of dialect. The up arrow of the manuals is the byte 5E, in rows ^.
+// A value that a manual does not state is taken from what it prints. What a row has, the functions image_row and so on say.
+mod columns;
+mod lines;
+mod shown;
+mod texts;
 
-// The room for a text or a body: no image is longer than this.
-const ROOM: usize = 20;
+use crate::columns::body_row;
+use crate::columns::image_row;
+use crate::columns::size_row;
+use crate::lines::fields_row;
+use crate::lines::line_row;
+use crate::texts::text_row;
 
-// Writes a sign and a whole number.
-fn print_signed(negative: bool, whole: u64) {
-    if negative {
-        io::write_all(STDOUT_FILENO, b"-");
-    } else {
-        io::write_all(STDOUT_FILENO, b"+");
-    }
-    io::print_decimal(STDOUT_FILENO, whole);
+// Known values, those marked * too, and one row each of refusals 2 and 1.
+fn known_images() {
+    // 000, CONVERT, four examples. For the first and the fourth, 004 writes the images 000 and 0000.#####: in its dialect a 0 keeps a
+    // leading zero and a # does not.
+    image_row(b"\x01\x03###", false, 12195, 0, 3);
+    image_row(b"\x01\x06+##.##", false, 2439, 0, 2);
+    // Misprint of 000: ' 1.2E+01', 8 bytes under an image of 9. It is what -#.#^^^^ gives, which 004 has.
+    image_row(b"\x01\x09-#.##^^^^", false, 12195, 0, 3);
+    // Misprint of 000: '0012.195000', six digits under five #. 004 has '0012.19500'.
+    image_row(b"\x01\x0a####.#####", false, 12195, 0, 3);
+    image_row(b"\x01\x02+#", true, 3, 0, 1);
+    image_row(b"\x01\x02##", false, 9999, 0, 2);
+    image_row(b"\x01\x02##", false, 1, 2, 0);
+    image_row(b"\x01\x08+#.#^^^^", false, 5, 0, 2);
+    // Difference from 000, PACK: it would pack this, the exponent's sign taken to be plus.
+    image_row(b"\x01\x07#.#^^^^", false, 5, 0, 2);
+    image_row(b"\x01\x02##", true, 12, 0, 0);
+    image_row(b"\x01\x03.##", false, 5, 0, 1);
+    image_row(b"\x01\x03.##", false, 1, 0, 0);
+    image_row(b"\x01\x06##^^^^", false, 1, 0, 99);
+    image_row(b"\x01\x0e##############", false, 1, 0, 0);
+    image_row(b"\x01\x02#.", false, 1, 0, 0);
 }
 
-// Writes a refusal's number and place.
-fn print_refusal(refusal: Refusal) {
-    io::write_all(STDOUT_FILENO, b"refused ");
-    io::print_decimal(STDOUT_FILENO, refusal.number as u64);
-    io::write_all(STDOUT_FILENO, b" ");
-    io::print_decimal(STDOUT_FILENO, refusal.place as u64);
+// The manuals' other examples of a number under an image.
+fn manual_images() {
+    // 000, error 56: 1234 exceeds ##; its correction.
+    image_row(b"\x01\x02##", false, 1234, 0, 0);
+    image_row(b"\x01\x04####", false, 1234, 0, 0);
+    // 004, CONVERT.
+    image_row(b"\x01\x08-#.#^^^^", false, 12195, 0, 3);
+    // 004, CONVERT. Difference of dialect: it gives '  10', what document 01 prints under this image and does not convert to.
+    image_row(b"\x01\x04####", false, 10, 0, 0);
+    // 004, UNPACK.
+    image_row(b"\x01\x04####", false, 24, 0, 0);
 }
 
-// Writes an exponent that is held with EXPONENT_LIMIT added.
-fn print_exponent(held: usize) {
-    if held < decimal::EXPONENT_LIMIT {
-        print_signed(true, (decimal::EXPONENT_LIMIT - held) as u64);
-    } else {
-        print_signed(false, (held - decimal::EXPONENT_LIMIT) as u64);
-    }
+// Packed sizes. Difference of dialect: 004 leaves the last half of an odd column as it was; in document 01 it becomes zero.
+fn sizes() {
+    // 000 and 004, PACK. In the text of 000 the first image is lost.
+    size_row(b"\x01\x04####");
+    size_row(b"\x01\x03###");
+    size_row(b"\x01\x07+##.###");
+    // Misprint of 000: 3 bytes, for 1 + 4 + 2 halves. 004 has +#.##^^^^, of 3 bytes.
+    size_row(b"\x01\x0a+#.###^^^^");
+    size_row(b"\x01\x09+#.##^^^^");
+    // 000, PACK and UNPACK: into STR(A$, 4, 2), so 2 bytes.
+    size_row(b"\x01\x05+#.##");
 }
 
-// Writes a byte as it is.
-fn print_character(byte: u8) {
-    let one = [byte];
-    io::write_all(STDOUT_FILENO, &one);
+// Bodies read.
+fn bodies() {
+    // A known value, marked *.
+    body_row(b"\x01\x02+#", b"\x10");
+    // 004, UNPACK.
+    body_row(b"\x01\x04####", b"\x00\x24");
+    // 004, UNPACK: the whole of its variable, with a blank behind the body. Difference of dialect: it reads the first bytes and
+    // lets others follow.
+    body_row(b"\x01\x04####", b"\x00\x24\x20");
 }
 
-// Writes a blank and a byte in hexadecimal.
-fn print_byte(byte: u8) {
-    io::write_all(STDOUT_FILENO, b" ");
-    io::print_hex(STDOUT_FILENO, byte as u64, 2);
+// Known values, the example of document 01's Alpha text, and 000's pages CONVERT and NUM.
+fn known_texts() {
+    // 000, NUM; 004 has the second too.
+    text_row(b"+24.37#JK");
+    text_row(b"98.7+53.6");
+    // Document 01.
+    text_row(b"12E99");
+    // 000 and 004, CONVERT.
+    text_row(b"1234");
+    // 000 and 004, NUM, as a variable of 16 bytes holds them; only the second has length 16 there.
+    text_row(b"123A5           ");
+    text_row(b"12345           ");
 }
 
-// Writes the first bytes of a buffer, as they are or in hexadecimal.
-fn print_bytes(buffer: [u8; ROOM], size: usize, hexadecimal: bool) {
-    let mut i = 0;
-    while i < ROOM {
-        if i < size {
-            if hexadecimal {
-                print_byte(buffer[i]);
-            } else {
-                print_character(buffer[i]);
-            }
-        }
-        i += 1;
-    }
+// The manuals' examples of numeric constants, whose form NUM and CONVERT go by.
+fn constants() {
+    // 000, numeric constants.
+    text_row(b"4");
+    text_row(b"-10");
+    text_row(b"1432443");
+    text_row(b"-.7865");
+    text_row(b"24.4563");
+    text_row(b"4.5E7");
+    // 000, not valid.
+    text_row(b"8.7E5.8");
+    // In the text of 000 the minus is lost; 004 has it.
+    text_row(b"-103.2E99");
+    // Mistake of 000: it says that 8.7E-100 is less than E-100. Document 01 refuses it as its e is -100.
+    text_row(b".87E-99");
+    // 000, error 20: 14 digits; its correction.
+    text_row(b"12345678.234567");
+    text_row(b"12345678.23456");
 }
 
-// Writes the alpha text of a number under an image.
-fn print_alpha(image: &[u8], number: Number) {
-    let mut buffer = [0u8; ROOM];
-    match codec::write_alpha(image, number, &mut buffer) {
-        WriteAnswer::Refused(refusal) => print_refusal(refusal),
-        WriteAnswer::Written(size) => {
-            io::write_all(STDOUT_FILENO, b"'");
-            print_bytes(buffer, size, false);
-            io::write_all(STDOUT_FILENO, b"'");
-        }
-    }
+// 004's examples of constants and of NUM that 000 does not have.
+fn later_constants() {
+    text_row(b"-3E2");
+    text_row(b"2.6E-27");
+    text_row(b"4.5E+07");
+    // Difference of dialect: 004 takes blanks anywhere.
+    text_row(b"4.5 E-07");
+    // NUM gives 4, and 16 in a variable of 16 bytes. Difference of dialect: 004's numbers end near 7.2E75, so it can't convert these.
+    text_row(b"1E88");
+    text_row(b"1E88            ");
+    // NUM gives 0 for blanks.
+    text_row(b"                ");
 }
 
-// Packs a number under a contents with one column, and writes the body.
-fn print_packed(contents: &[u8], number: Number) {
-    let mut values = [Number::ZERO; codec::COLUMNS];
-    values[0] = number;
-    let mut buffer = [0u8; ROOM];
-    match codec::pack(contents, Numbers { values, count: 1 }, &mut buffer) {
-        WriteAnswer::Refused(refusal) => {
-            io::write_all(STDOUT_FILENO, b" ");
-            print_refusal(refusal);
-        }
-        WriteAnswer::Written(size) => print_bytes(buffer, size, true),
-    }
+// Known values printed, both marked *.
+fn known_lines() {
+    line_row(b"#,###.#", b"34");
+    line_row(b"##", b"1234");
 }
 
-// Writes a row: a contents with one column, and the number whole * 10^up / 10^down.
-fn print_row(contents: &[u8], negative: bool, whole: u64, up: u16, down: u16) {
-    if contents.len() < 2 {
-        return;
-    }
-    let image = &contents[2..];
-    io::write_all(STDOUT_FILENO, image);
-    io::write_all(STDOUT_FILENO, b" ");
-    print_signed(negative, whole);
-    io::write_all(STDOUT_FILENO, b"E");
-    if up < down {
-        print_signed(true, (down - up) as u64);
-    } else {
-        print_signed(false, (up - down) as u64);
-    }
-    io::write_all(STDOUT_FILENO, b": ");
-    match Number::from_scaled(negative, whole, up, down, 0) {
-        NumberAnswer::Refused(refusal) => print_refusal(refusal),
-        NumberAnswer::Number(number) => {
-            print_alpha(image, number);
-            io::write_all(STDOUT_FILENO, b"; body");
-            print_packed(contents, number);
-        }
-    }
-    io::write_all(STDOUT_FILENO, b"\n");
+// 000, PRINTUSING and errors. The line starts right behind the %. Differences of dialect: a line end is carriage return and line feed,
+// and one stands behind the last line too; a dollar sign belongs to the field and stands before the first digit, here it is a literal.
+// Left out: the third example (1;2;3 in one line), as semicolons that hold back line ends are not in document 01.
+fn printed_lines() {
+    // Misprint of 000: ANGLE = 2.30 LENGTH = +27.1. The line has - for =, and +##.## keeps two digits; 001 has +##.#.
+    line_row(b" ANGLE - ##.## LENGTH = +##.##", b"2.3;27.123");
+    line_row(b" #.#", b"1;2;3");
+    // The dollar sign: 000 prints $73,694.23.
+    line_row(b"TOTAL SALES = ##### VALUE $###,###.##", b"1242.3;73694.23");
+    // Misprint of 000: three up arrows, which its error 38 refuses. In document 01 they are literal bytes.
+    line_row(b" COEFF = +.###^^^ ERROR = -##^^^", b"2.13E-5;2.3E-9");
+    line_row(b" COEFF = +.###^^^^ ERROR = -##^^^^", b"2.13E-5;2.3E-9");
+    // 001 has this too. Difference of dialect: it prints ##### where a number exceeds.
+    line_row(b" +#.##", b"317.23");
+    // Misprint of 000: $ for the % that begins the line.
+    line_row(b" PROFIT AND LOSS STATEMENT", b"");
+    // Misprint of 000: J. SMITH printed whole under five #; then under eight. The dollar sign: 000 prints $9,237.51.
+    line_row(
+        b" SALESMAN ##### TOTAL SALES $##,###.##",
+        b"J. SMITH;9237.51",
+    );
+    line_row(
+        b" SALESMAN ######## TOTAL SALES $##,###.##",
+        b"J. SMITH;9237.51",
+    );
+    // Error 36: no field; its correction, of which 000 gives no print.
+    line_row(b" AMOUNT =", b"1.23");
+    line_row(b" AMOUNT = #####", b"1.23");
 }
 
-// Writes a text between quotes, its legal length, and its number.
-fn print_text(text: &[u8]) {
-    io::write_all(STDOUT_FILENO, b"'");
-    io::write_all(STDOUT_FILENO, text);
-    io::write_all(STDOUT_FILENO, b"': length ");
-    io::print_decimal(STDOUT_FILENO, codec::legal_length(text) as u64);
-    io::write_all(STDOUT_FILENO, b", ");
-    match codec::convert(text) {
-        NumberAnswer::Refused(refusal) => print_refusal(refusal),
-        NumberAnswer::Number(number) => {
-            print_signed(number.negative, number.mantissa);
-            io::write_all(STDOUT_FILENO, b" e ");
-            print_exponent(number.exponent);
-        }
-    }
-    io::write_all(STDOUT_FILENO, b"\n");
+// 001, PRINT USING and errors. Difference of dialect: its exponent marks are !!!!, here ^^^^.
+// Left out: 1;2;3 in one line, as above, and in three lines, which is a row above.
+fn earlier_lines() {
+    line_row(b" ANGLE=##.## LENGTH=+##.#", b"2.3;-27.123");
+    // Misprint of 001: $73694.23 under ########, which keeps no fraction; then under #####.##.
+    line_row(b" TOTAL SALES- #### VALUE- $########", b"1242;73694.23");
+    line_row(b" TOTAL SALES- #### VALUE- $#####.##", b"1242;73694.23");
+    line_row(b" COEFFICIENT= +.###^^^^ ERROR= -##^^^^", b"2.13E-5;2.3E-9");
+    line_row(b" SALESMAN: ########", b"JOHN DOE");
+    // MAT PRINT USING, two examples. Difference of dialect: in the first, a semicolon prints each row of the array as one line; and a
+    // blank line parts two rows.
+    line_row(
+        b" +#.#^^^^",
+        b"6.2E-7;-1.3E-17;7.3E-11;1.2E-8;-3.9E-8;-4.9E-8;6.9E-10;8.4E-9;5.2E-14;-5.4E-13",
+    );
+    line_row(
+        b" ANGLE= ###.## DEG ERROR= ##.##",
+        b"36.49;5.21;85.60;11.92;135.51;8.61",
+    );
+    // Error 47, with a number of ours. Difference of dialect: 001 refuses the line itself, document 01 only elements for it.
+    line_row(b" THE ANSWER IS - - -", b"1");
 }
 
-// The rows of Known values. The first four are the examples of page CONVERT; the manual prints the third as ' 1.2E+01' and the fourth as
-// '0012.195000', which are misprints.
-fn known_values() {
-    print_row(b"\x01\x03###", false, 12195, 0, 3);
-    print_row(b"\x01\x06+##.##", false, 2439, 0, 2);
-    print_row(b"\x01\x09-#.##^^^^", false, 12195, 0, 3);
-    print_row(b"\x01\x0a####.#####", false, 12195, 0, 3);
-    print_row(b"\x01\x02+#", true, 3, 0, 1);
-    print_row(b"\x01\x02##", false, 9999, 0, 2);
-    print_row(b"\x01\x02##", false, 1, 2, 0);
-    print_row(b"\x01\x08+#.#^^^^", false, 5, 0, 2);
-    print_row(b"\x01\x07#.#^^^^", false, 5, 0, 2);
-    print_row(b"\x01\x02##", true, 12, 0, 0);
-    print_row(b"\x01\x03.##", false, 5, 0, 1);
-    print_row(b"\x01\x03.##", false, 1, 0, 0);
-    print_row(b"\x01\x06##^^^^", false, 1, 0, 99);
-    print_row(b"\x01\x0e##############", false, 1, 0, 0);
-    print_row(b"\x01\x02#.", false, 1, 0, 0);
+// 004, CONVERT and PRINTUSING. Differences of dialect: a leading sign or dollar sign stands before the first digit, and a number that
+// exceeds prints the field with the number's sign. Left out: the line with trailing ++ and --, and the pictures of FMT (0, *, B and /).
+fn later_lines() {
+    // CONVERT, which in 004 is as printing.
+    line_row(b"####", b"10");
+    // Its values are not given; these are ours. Misprint of 004: its words give the second image as -###.#.
+    line_row(b"-### XYZ -###.##", b"1;2;3");
 }
 
-// Texts: the two rows of Known values, the other examples of the pages CONVERT and NUM (the last two as the manual's variable of 16
-// characters holds them), and a number whose exponent is outside its limits.
-fn texts() {
-    print_text(b"+24.37#JK");
-    print_text(b"98.7+53.6");
-    print_text(b"1234");
-    print_text(b"123A5           ");
-    print_text(b"12345           ");
-    print_text(b"12E99");
+// Line images that the manuals show without values.
+fn fields() {
+    // 000, IMAGE. Difference of dialect, also in the next lines: a dollar sign belongs to the field.
+    fields_row(b" CODE NO. = ##### COMPOSITION = ## ###");
+    fields_row(b" ##### UNITS AT $#,###.## PER UNIT");
+    fields_row(b" +#.##^^^^");
+    // 000, SELECT, RETURN (004 too) and error 37.
+    fields_row(b"TOTAL VALUE RECEIVED:$#,###.##");
+    fields_row(b" COST = $#,###,###.## CODE = ####");
+    fields_row(b" AMOUNT = $#,###.##");
+    // 000, error 38. Difference of dialect: refused there for its three up arrows. Its correction, which 004, PRINTUSING, has too.
+    fields_row(b" ##.##^^^");
+    fields_row(b" ##.##^^^^");
+    // 001, IMAGE. Difference of dialect: its !!!! belong to the field.
+    fields_row(b" ##.###!!!!");
+    fields_row(b" +#######");
+    // 001, errors 47 and 48.
+    fields_row(b" THE ANSWER IS ###");
+    fields_row(b" A=####");
+    // 004, IMAGE.
+    fields_row(b"FEAR IN A HANDFUL OF DUST +###,###,###.##");
 }
 
 // All rows.
 fn main() {
-    known_values();
-    texts();
+    known_images();
+    manual_images();
+    sizes();
+    bodies();
+    known_texts();
+    constants();
+    later_constants();
+    known_lines();
+    printed_lines();
+    earlier_lines();
+    later_lines();
+    fields();
 }

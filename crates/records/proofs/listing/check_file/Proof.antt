@@ -1,13 +1,12 @@
 -- `check_file` meets its contract. The loop's invariant: whether the bodies from the place on can be read says whether all can.
 -- The measure is what is left of the file. Assumes nothing.
 use Prim.Native.Nat.{ℕ, _+_, _-_, _≤_}
-use mathlib.Core.Path.{_≡_, ap, sym, _∙_}
+use mathlib.Core.Path.{ap, sym, _∙_}
 use native.Mathlib.Omega.{arith}
 use borrow.Author.Needs.{needs}
-use lib.ListN.{length, take, drop}
-use Rattle.codec.specs.Contents.{bodySize, contentsOf}
-use Rattle.codec.specs.Unpacking.{unpackBody, unpackedOf}
-use Rattle.records.proofs.ListingLaws.{
+use lib.ListN.{length}
+use Rattle.codec.specs.Contents.{contentsOf}
+use Rattle.records.proofs.LinesLaws.{
   FileHeld,
   file-held,
   file-refused,
@@ -31,16 +30,12 @@ abbrev μ-loop : tie.MeasureT-loop
 μ-loop file table images at₀ at = length file - at
 
 -- what was read of the file
-held : (c : tie.After-images Inv-loop μ-loop) → FileHeld (c .before .before .before .before .before .args .file .now) (c .before .before .before .read-file .result)
+held :
+    (c : tie.After-images Inv-loop μ-loop)
+    → FileHeld (c .before .before .before .before .before .args .file .now) (c .before .before .before .read-file .result)
 held c =
     let f = c .before .before .before in
-    file-held (f .before .before .args .file .now) (f .read-file .result) (f .read-file .ensures) (c .before .enum-told2 .given .1)
-
--- what the bodies from the place on say
-checks :
-    (c : tie.At-loop Inv-loop μ-loop)
-    → Checking (c .before .before .before .before .before .before .args .file .now) (held (c .before) .table) (c .loop .at)
-checks c = c .loop .inv (held (c .before))
+    file-held (f .before .before .args .file .now) (f .read-file .ensures) (c .before .enum-told2 .given .1)
 
 -- the body at the place ends within the file
 inside :
@@ -50,21 +45,7 @@ inside :
 inside c =
     let l = c .before in
     let f = held (l .before) in
-    omega (arith, checking-inside (l .before .before .before .before .before .before .args .file .now) (f .table) (l .loop .at) (checks l) (c .loop-test .taken), f .held .body)
-
--- it is read as the code reads it
-body-read :
-    (c : tie.After-unpack-under Inv-loop μ-loop)
-    → c .unpack-under .result
-    ≡ unpackedOf
-    (unpackBody (held (c .before .before .before .before .before) .table .images)
-    (take (bodySize (held (c .before .before .before .before .before) .table .images))
-    (drop (c .before .before .before .before .loop .at) (c .before .before .before .before .before .before .before .before .before .before .args .file .now))))
-body-read c =
-    let l = c .before .before .before .before in
-    let f = held (l .before) in
-    part-unpacked (f .table) (l .before .before .before .before .read-file .result) (f .held)
-    (l .before .before .before .before .before .before .args .file .now) (l .loop .at) (c .unpack-under .ensures)
+    omega (arith, checking-inside (l .loop .inv f) (c .loop-test .taken), f .held .body)
 
 read-file-requires : tie.Need-read-file-requires Inv-loop μ-loop
 read-file-requires c κs = search needs
@@ -75,7 +56,7 @@ enum-told c = search needs
 returns : tie.Need-returns Inv-loop μ-loop
 returns c =
     let f = c .before .before in
-    file-refused (f .before .before .args .file .now) (f .read-file .result) _ (f .read-file .ensures) (c .enum-told .given .1)
+    file-refused (f .before .before .args .file .now) (f .read-file .ensures) (c .enum-told .given .1)
 
 enum-told-2 : tie.Need-enum-told-2 Inv-loop μ-loop
 enum-told-2 c = search needs
@@ -110,33 +91,29 @@ returns-2 c =
     let u = n .before .before in
     let i = u .before .before .before in
     let l = i .before in
+    let a = l .before .before .before .before .before .before .args in
     let f = held (l .before) in
+    let body = part-unpacked (f .held) (a .file .now) (l .loop .at) (u .unpack-under .ensures) in
     c .refused .ensures
-    ∙ sym
-    (ap contentsOf
-    (checking-stops (l .before .before .before .before .before .before .args .file .now) (f .table) (l .loop .at) (checks l) (i .loop-test .taken)
-    (unpack-refused _ (u .unpack-under .result) (body-read u) (n .found .given .0 .0) (n .found .given .1))))
+    ∙ sym (ap contentsOf (checking-stops (l .loop .inv f) (i .loop-test .taken) (unpack-refused _ body (n .found .given .1))))
 
 enum-told-3 : tie.Need-enum-told-3 Inv-loop μ-loop
 enum-told-3 c = search needs
 
 loop-less : tie.Need-loop-less Inv-loop μ-loop
 loop-less c =
-    let l = c .before .before .before .before .before .before in
-    let f = held (l .before) in
-    omega (arith, inside (c .before .before .before .before .before), f .held .body, f .some)
+    let i = c .before .before .before .before .before in
+    let f = held (i .before .before) in
+    omega (arith, inside i, f .held .body, f .some)
 
 loop-again : tie.Need-loop-again Inv-loop μ-loop
 loop-again c f =
     let u = c .before .before in
     let i = u .before .before .before in
     let l = i .before in
-    checking-turns (l .before .before .before .before .before .before .args .file .now) (f .table) (l .loop .at) (l .loop .inv f) (i .loop-test .taken)
-    (f .held .sound .all)
-    (unpack-read _ (u .unpack-under .result)
-    (part-unpacked (f .table) (l .before .before .before .before .read-file .result) (f .held)
-    (l .before .before .before .before .before .before .args .file .now) (l .loop .at) (u .unpack-under .ensures))
-    (c .enum-told3 .given .1) .1)
+    let a = l .before .before .before .before .before .before .args in
+    let body = part-unpacked (f .held) (a .file .now) (l .loop .at) (u .unpack-under .ensures) in
+    checking-turns (l .loop .inv f) (i .loop-test .taken) (f .held .sound .all) (unpack-read _ body (c .enum-told3 .given .1) .1)
     (ap (λ (k : ℕ). l .loop .at + k) (f .held .body))
 
 returns-3 : tie.Need-returns-3 Inv-loop μ-loop
@@ -144,11 +121,7 @@ returns-3 c =
     let l = c .before in
     let f = held (l .before) in
     let r = l .before .before .before .before in
-    r .read-file .ensures
-    ∙ ap contentsOf
-    (f .reads
-    ∙ sym
-    (checking-ends (r .before .before .args .file .now) (f .table) (l .loop .at) (checks l) (f .some) (c .loop-test .left)))
+    r .read-file .ensures ∙ ap contentsOf (f .reads ∙ sym (checking-ends (l .loop .inv f) (f .some) (c .loop-test .left)))
 
 pub check-file-spec : {M : Type 1} → statement M
 check-file-spec =

@@ -4,7 +4,8 @@ use lib.ListN.{length}
 use Rattle.codec.proofs.ContentsLaws.{told-refused}
 use Rattle.codec.proofs.AlphaLaws.{refused-answers}
 use Rattle.records.specs.Listing.{checkedFile, listed}
-use Rattle.records.proofs.ListingLaws.{listed-refused, listed-made}
+use Rattle.records.proofs.LinesLaws.{listed-made}
+use Rattle.records.proofs.ListingLaws.{listed-refused}
 use Rattle.records.proofs.listing.list.Statement.{statement}
 use Rattle.records.proofs.listing.list.Tie as tie
 
@@ -19,9 +20,10 @@ returns c =
     let n = c .before in
     let f = n .before .before in
     let a = f .before .before .before .args in
+    let r = f .check-file .result in
     refused-answers (listed (a .file .now) (length (a .buffer .now))) (a .buffer .now)
     (listed-refused (a .file .now) (length (a .buffer .now))
-    (told-refused (checkedFile (a .file .now)) (f .check-file .result) (n .answer .given .0 .0) (f .check-file .ensures) (n .answer .given .1)))
+    (told-refused (checkedFile (a .file .now)) r (n .answer .given .0 .0) (f .check-file .ensures) (n .answer .given .1)))
 
 enum-told : tie.Need-enum-told
 enum-told c = search needs
@@ -31,7 +33,7 @@ list-checked-requires c κs =
     let t = c .before in
     let f = t .before .before in
     let a = f .before .before .before .args in
-    listed-made (a .file .now) (f .check-file .result) (f .check-file .ensures) (t .enum-told .given .1)
+    listed-made (a .file .now) (f .check-file .ensures) (t .enum-told .given .1)
 
 same-length : tie.Need-same-length
 same-length c = search needs

@@ -11,60 +11,53 @@ use Rattle.codec.proofs.AlphaLaws.{refused-answers, done-answers}
 use Rattle.records.specs.Listing.{linesOf, listed}
 use Rattle.records.proofs.WritingLaws.{decimal-few}
 use Rattle.records.proofs.ReportLaws.{within-some}
+use Rattle.records.proofs.LinesLaws.{ListedHeld, listed-held}
 use Rattle.records.proofs.ListingLaws.{
-  ListedHeld,
-  listed-held,
-  listed-sizes,
+  parts-length,
+  parts-written,
   recordsOf,
   firstLine,
   lastLine,
   listed-parts,
+  listed-sizes,
   measured-long,
   measured-short,
-  parts-room,
-  parts-written,
 }
 use Rattle.records.proofs.listing.list_checked.Statement.{statement}
 use Rattle.records.proofs.listing.list_checked.Tie as tie
 
 -- what the code has of the file
 held : (s : tie.Start) → ListedHeld (s .args .file .now) (s .args .table)
-held s = listed-held (s .args .file .now) (s .args .table) (s .pre)
+held s = listed-held (s .pre)
 
 -- the listing, by its three parts
 abbrev first : tie.Start → List ℕ
-first s = firstLine (s .args .file .now) (s .args .table) (held s)
+first s = firstLine (s .args .table)
 
 abbrev lines : tie.Start → List ℕ
 lines s = linesOf (s .args .file .now)
 
 abbrev last : tie.Start → List ℕ
-last s = lastLine (s .args .file .now) (s .args .table) (held s)
+last s = lastLine (s .args .file .now) (s .args .table)
+
+-- the entry
+abbrev entry : tie.Else1 → tie.Start
+entry c = c .before .before .before .before .before .before .before .before .before
 
 -- there is room for it
-fits :
-    (c : tie.Else1)
-    → length (first (c .before .before .before .before .before .before .before .before .before))
-    + length (lines (c .before .before .before .before .before .before .before .before .before))
-    + length (last (c .before .before .before .before .before .before .before .before .before))
-    ≤ length (c .before .before .before .before .before .before .before .before .before .args .buffer .now)
+fits : (c : tie.Else1) → length (first (entry c)) + length (lines (entry c)) + length (last (entry c)) ≤ length (entry c .args .buffer .now)
 fits c =
     let g = c .before in
     let d = g .before .before in
-    let s = d .before .before .before .before .before .before in
-    let a = s .args in
-    measured-short (a .file .now) (a .table) (held s) (length (a .buffer .now)) (d .before .decimal-length .ensures) (d .decimal-length2 .ensures)
+    let s = entry c in
+    measured-short (held s) (length (s .args .buffer .now)) (d .before .decimal-length .ensures) (d .decimal-length2 .ensures)
     (g .is-longer .ensures) (c .if1 .left)
 
 sub-records : tie.Need-sub-records
-sub-records c =
-    let s = c .before .before .before in
-    listed-sizes (s .args .file .now) (s .args .table) (held s) .2
+sub-records c = listed-sizes (held (c .before .before .before)) .2
 
 div-records : tie.Need-div-records
-div-records c =
-    let s = c .before .before .before .before in
-    listed-sizes (s .args .file .now) (s .args .table) (held s) .0
+div-records c = listed-sizes (held (c .before .before .before .before)) .0
 
 mul-others : tie.Need-mul-others
 mul-others c = search needs
@@ -82,25 +75,20 @@ decimal-length-requires-2 c κs = search needs
 
 add-others-2 : tie.Need-add-others-2
 add-others-2 c =
-    let s = c .before .before .before .before .before .before in
-    let a = s .args in
+    let a = c .before .before .before .before .before .before .args in
     omega (
       arith,
       c .before .decimal-length .ensures,
       c .decimal-length2 .ensures,
       decimal-few (a .table .count),
-      decimal-few (recordsOf (a .file .now) (a .table) (held s)),
+      decimal-few (recordsOf (a .file .now) (a .table)),
     )
 
 sub-is-longer : tie.Need-sub-is-longer
-sub-is-longer c =
-    let s = c .before .before .before .before .before .before .before in
-    omega (arith, listed-sizes (s .args .file .now) (s .args .table) (held s) .1)
+sub-is-longer c = omega (arith, listed-sizes (held (c .before .before .before .before .before .before .before)) .1)
 
 is-longer-requires : tie.Need-is-longer-requires
-is-longer-requires c κs =
-    let s = c .before .before .before .before .before .before .before in
-    omega (arith, listed-sizes (s .args .file .now) (s .args .table) (held s) .1)
+is-longer-requires c κs = omega (arith, listed-sizes (held (c .before .before .before .before .before .before .before)) .1)
 
 no-room-requires : tie.Need-no-room-requires
 no-room-requires c κs = search needs
@@ -111,11 +99,11 @@ returns c =
     let d = g .before .before in
     let s = d .before .before .before .before .before .before in
     let a = s .args in
-    let r =
-    refused-answers (listed (a .file .now) (length (a .buffer .now))) (a .buffer .now)
-    (measured-long (a .file .now) (a .table) (held s) (length (a .buffer .now)) (d .before .decimal-length .ensures) (d .decimal-length2 .ensures)
-    (g .is-longer .ensures) (c .before .if1 .taken)) in
-    (c .no-room .ensures ∙ r .0, r .1)
+    let long =
+    measured-long (held s) (length (a .buffer .now)) (d .before .decimal-length .ensures) (d .decimal-length2 .ensures)
+    (g .is-longer .ensures) (c .before .if1 .taken) in
+    let found = refused-answers (listed (a .file .now) (length (a .buffer .now))) (a .buffer .now) long in
+    (c .no-room .ensures ∙ found .0, found .1)
 
 slice-aggregate-write-count : tie.Need-slice-aggregate-write-count
 slice-aggregate-write-count c = search needs
@@ -127,8 +115,7 @@ write-records-requires : tie.Need-write-records-requires
 write-records-requires c κs =
     let w = c .before .before .before in
     let e = w .before .before .before in
-    let s = e .before .before .before .before .before .before .before .before .before in
-    (s .pre, omega (arith, fits e, w .write-count .ensures .0, w .write-count .kept .1 .1 .0))
+    (entry e .pre, omega (arith, fits e, w .write-count .ensures .0, w .write-count .kept .1 .1 .0))
 
 slice-aggregate-write-count-2 : tie.Need-slice-aggregate-write-count-2
 slice-aggregate-write-count-2 c = search needs
@@ -137,10 +124,9 @@ write-count-requires-2 : tie.Need-write-count-requires-2
 write-count-requires-2 c κs =
     let v = c .before .before .before .before in
     let w = v .before .before .before .before in
-    let e = w .before .before .before in
     omega (
       arith,
-      fits e,
+      fits (w .before .before .before),
       w .write-count .ensures .0,
       w .write-count .kept .1 .1 .0,
       v .write-records .ensures .0,
@@ -156,16 +142,16 @@ returns-2 c =
     let v = x .before .before .before .before .before in
     let w = v .before .before .before .before in
     let e = w .before .before .before in
-    let s = e .before .before .before .before .before .before .before .before .before in
-    let a = s .args in
-    let long = parts-room (first s) (lines s) (last s) in
-    done-answers (listed (a .file .now) (length (a .buffer .now))) (a .buffer .now)
-    (listed-parts (a .file .now) (a .table) (held s) (length (a .buffer .now))
-    ∙ within-some (length (a .buffer .now)) (first s ++ (lines s ++ last s)) (omega (arith, fits e, long)))
+    let s = entry e in
+    let b = s .args .buffer .now in
+    let text = first s ++ (lines s ++ last s) in
+    let long = parts-length (first s) (lines s) (last s) in
+    let room : length text ≤ length b = omega (arith, fits e, long) in
+    done-answers (listed (s .args .file .now) (length b)) b (listed-parts (held s) (length b) ∙ within-some (length b) text room)
     (omega (arith, long, w .write-count .ensures .0, v .write-records .ensures .0, x .write-count2 .ensures .0))
-    (parts-written (a .buffer .now) (first s) (lines s) (last s) (omega (arith, fits e, long)) (w .write-count .ensures .0)
-    (v .write-records .ensures .0) (w .write-count .ensures .1) (v .write-records .ensures .1) (x .write-count2 .ensures .1)
-    ∙ written-stored (a .buffer .now) (first s ++ (lines s ++ last s)))
+    (parts-written b (first s) (lines s) (last s) room (w .write-count .ensures .0) (v .write-records .ensures .0)
+    (w .write-count .ensures .1) (v .write-records .ensures .1) (x .write-count2 .ensures .1)
+    ∙ written-stored b text)
 
 pub list-checked-spec : {M : Type 1} → statement M
 list-checked-spec =

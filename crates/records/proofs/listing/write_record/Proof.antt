@@ -19,7 +19,7 @@ use Rattle.records.proofs.RecordLaws.{
   Texting,
   Separated,
   texting-starts,
-  texting-length,
+  texting-kept,
   texting-room,
   texting-turns,
   texting-ends,
@@ -54,24 +54,63 @@ long s =
     let many : length (s .args .t1) ≡ maxColumns = search needs in
     texts-long (s .args .t1) (s .args .t3) (s .args .count) (s .pre .1) (omega arith)
 
--- what is written before a column's text
+-- the place of the loop's head, where a blank may stand before a text
+abbrev head : tie.Joined1 Inv-loop μ-loop → tie.At-loop Inv-loop μ-loop
+head c = c .before .before .before .before
+
+-- and of the entry
+abbrev entry : tie.Joined1 Inv-loop μ-loop → tie.Start Inv-loop μ-loop
+entry c = head c .before .before
+
+-- the text of the column
+abbrev text : tie.Joined1 Inv-loop μ-loop → List ℕ
+text c = getD (texts (entry c)) (head c .loop .column) []
+
+-- the part of the buffer that is lent for it
+abbrev part : tie.Joined1 Inv-loop μ-loop → List ℕ
+part c = take (length (c .if1 .buffer) - c .if1 .out) (drop (c .if1 .out) (c .if1 .buffer))
+
+-- what is written before it
 joined :
     (c : tie.Joined1 Inv-loop μ-loop)
-    → Separated (texts (c .before .before .before .before .before .before)) (c .before .before .before .before .before .before .args .buffer .now)
-    (c .before .before .before .before .before .before .args .from)
-    (c .if1 .buffer) (c .if1 .out) (c .before .before .before .before .loop .column)
+    → Separated (texts (entry c)) (entry c .args .buffer .now) (entry c .args .from) (c .if1 .buffer) (c .if1 .out) (head c .loop .column)
 joined c =
-    let l = c .before .before .before .before in
-    let s = l .before .before in
-    let a = s .args in
+    let t = head c .loop .inv .1 in
+    let room = entry c .pre .2 in
     ⊎-elim
-    (λ w.
-    separated-next (texts s) (a .buffer .now) (a .from) (s .pre .2) (l .loop .buffer) (l .loop .out) (l .loop .column) (l .loop .inv .1)
-    (w .0 .taken) (w .1) (w .2))
-    (λ w.
-    separated-first (texts s) (a .buffer .now) (a .from) (s .pre .2) (l .loop .buffer) (l .loop .out) (l .loop .column) (l .loop .inv .1)
-    (omega (arith, w .0 .left)) (w .1) (w .2))
+    (λ w. separated-next t room (w .0 .taken) (w .1) (w .2))
+    (λ w. separated-first t room (omega (arith, w .0 .left)) (w .1) (w .2))
     (c .if1 .came)
+
+-- there is a text for the column
+further : (c : tie.Joined1 Inv-loop μ-loop) → head c .loop .column < length (texts (entry c))
+further c = omega (arith, long (entry c), c .before .before .before .loop-test .taken)
+
+-- there is room for it
+room : (c : tie.Joined1 Inv-loop μ-loop) → c .if1 .out + length (text c) ≤ length (c .if1 .buffer)
+room c = separated-room (joined c) (entry c .pre .2) (further c)
+
+-- the place where the text's call is made
+abbrev place : tie.After-write-alpha-under Inv-loop μ-loop → tie.Joined1 Inv-loop μ-loop
+place w = w .before .before .before
+
+-- the text is written
+wrote :
+    (w : tie.After-write-alpha-under Inv-loop μ-loop)
+    → (writeMeaning (w .write-alpha-under .result) ≡ sized (done (text (place w))))
+    × (w .write-alpha-under .last .1 .1 .0 ≡ storedIn (done (text (place w))) (part (place w)))
+wrote w =
+    let j = place w in
+    let s = entry j in
+    let a = s .args in
+    let k = head j .loop .column in
+    let many : length (a .t1) ≡ maxColumns = search needs in
+    let same : (d : Image) (n : Number) → convertingUnder (getD (a .t1) k d) (getD (a .t3) k n) (length (part j)) ≡ done (text j) =
+    λ d n.
+    part-converted (getD (a .t1) k d) (getD (a .t3) k n) (j .if1 .buffer) (j .if1 .out)
+    (text-under (a .t1) (a .t3) (a .count) (s .pre .1) (omega arith) k d n (j .before .before .before .loop-test .taken)) (room j) in
+    let e = w .write-alpha-under .ensures in
+    (e .0 ∙ ap sized (same _ _), e .1 ∙ ap (λ (x : Answer (List ℕ)). storedIn x (part j)) (same _ _))
 
 loop-holds : tie.Need-loop-holds Inv-loop μ-loop
 loop-holds c = let s = c .before in (omega arith, texting-starts (texts s) (s .args .buffer .now) (s .args .from))
@@ -89,70 +128,14 @@ array-copy-out-number : tie.Need-array-copy-out-number Inv-loop μ-loop
 array-copy-out-number c = omega arith
 
 slice-write-buffer : tie.Need-slice-write-buffer Inv-loop μ-loop
-slice-write-buffer c =
-    let l = c .before .before .before .before in
-    let s = l .before .before in
-    let a = s .args in
-    texting-room (texts s) (a .buffer .now) (a .from) (s .pre .2) (l .loop .buffer) (l .loop .out) (l .loop .column) (l .loop .inv .1)
+slice-write-buffer c = let l = c .before .before .before .before in texting-room (l .loop .inv .1) (l .before .before .pre .2)
 
 add-out : tie.Need-add-out Inv-loop μ-loop
 add-out c =
     let l = c .before .before .before .before in
-    let s = l .before .before in
-    let a = s .args in
     let t = l .loop .inv .1 in
-    omega (
-      arith,
-      texting-room (texts s) (a .buffer .now) (a .from) (s .pre .2) (l .loop .buffer) (l .loop .out) (l .loop .column) t,
-      texting-length (texts s) (a .buffer .now) (a .from) (s .pre .2) (l .loop .buffer) (l .loop .out) (l .loop .column) t,
-    )
-
--- there is room for a column's text
-room :
-    (c : tie.Joined1 Inv-loop μ-loop)
-    → c .if1 .out + length (getD (texts (c .before .before .before .before .before .before)) (c .before .before .before .before .loop .column) [])
-    ≤ length (c .if1 .buffer)
-room c =
-    let l = c .before .before .before .before in
     let s = l .before .before in
-    let a = s .args in
-    separated-room (texts s) (a .buffer .now) (a .from) (s .pre .2) (c .if1 .buffer) (c .if1 .out) (l .loop .column) (joined c) (omega (arith, long s))
-
--- the buffer keeps its length
-kept : (c : tie.Joined1 Inv-loop μ-loop) → length (c .if1 .buffer) ≡ length (c .before .before .before .before .before .before .args .buffer .now)
-kept c =
-    let l = c .before .before .before .before in
-    let s = l .before .before in
-    let a = s .args in
-    separated-kept (texts s) (a .buffer .now) (a .from) (s .pre .2) (c .if1 .buffer) (c .if1 .out) (l .loop .column) (joined c) (omega (arith, long s))
-
--- it is written
-wrote :
-    (w : tie.After-write-alpha-under Inv-loop μ-loop)
-    → (writeMeaning (w .write-alpha-under .result)
-    ≡ sized (done (getD (texts (w .before .before .before .before .before .before .before .before .before)) (w .before .before .before .before .before .before .before .loop .column) [])))
-    × (w .write-alpha-under .last .1 .1 .0
-    ≡ storedIn (done (getD (texts (w .before .before .before .before .before .before .before .before .before)) (w .before .before .before .before .before .before .before .loop .column) []))
-    (take (length (w .before .before .before .if1 .buffer) - w .before .before .before .if1 .out) (drop (w .before .before .before .if1 .out) (w .before .before .before .if1 .buffer))))
-wrote w =
-    let j = w .before .before .before in
-    let i = j .before .before .before in
-    let l = i .before in
-    let s = l .before .before in
-    let a = s .args in
-    let k = l .loop .column in
-    let many : length (a .t1) ≡ maxColumns = search needs in
-    let e = w .write-alpha-under .ensures in
-    let here : (d : Image) (n : Number) → convertingUnder (getD (a .t1) k d) (getD (a .t3) k n) (length (take (length (j .if1 .buffer) - j .if1 .out) (drop (j .if1 .out) (j .if1 .buffer)))) ≡ done (getD (texts s) k []) =
-    λ d n. part-converted (getD (a .t1) k d) (getD (a .t3) k n) (j .if1 .buffer) (j .if1 .out)
-    (text-under (a .t1) (a .t3) (a .count) (s .pre .1) (omega arith) k d n (i .loop-test .taken)) (room j) in (
-      e .0 ∙ ap sized (here _ _),
-      e .1
-          ∙ ap
-          (λ (x : Answer (List ℕ)).
-          storedIn x (take (length (j .if1 .buffer) - j .if1 .out) (drop (j .if1 .out) (j .if1 .buffer))))
-          (here _ _),
-    )
+    omega (arith, texting-room t (s .pre .2), texting-kept t (s .pre .2))
 
 sub-write-alpha-under : tie.Need-sub-write-alpha-under Inv-loop μ-loop
 sub-write-alpha-under c = omega (arith, room (c .before))
@@ -172,10 +155,10 @@ enum-known-size c = search needs
 add-out-2 : tie.Need-add-out-2 Inv-loop μ-loop
 add-out-2 c =
     let w = c .before .before .before .before .before in
-    let j = w .before .before .before in
-    let s = j .before .before .before .before .before .before in
-    let size = wrote-length (w .write-alpha-under .result) _ (wrote w .0) (c .before .size .given .1) in
-    omega (arith, size, room j, kept j, s .good)
+    let j = place w in
+    let s = entry j in
+    let size = wrote-length (w .write-alpha-under .result) (text j) (wrote w .0) (c .before .size .given .1) in
+    omega (arith, size, room j, separated-kept (joined j) (s .pre .2) (further j), s .good)
 
 enum-told : tie.Need-enum-told Inv-loop μ-loop
 enum-told c = search needs
@@ -189,56 +172,36 @@ loop-less c = omega arith
 loop-again : tie.Need-loop-again Inv-loop μ-loop
 loop-again c =
     let w = c .before .before .before in
-    let j = w .before .before .before in
-    let i = j .before .before .before in
-    let l = i .before in
-    let s = l .before .before in
-    let a = s .args in
-    let more : l .loop .column < length (texts s) = omega (arith, long s, i .loop-test .taken) in
-    let ends : c .match .out ≡ j .if1 .out + length (getD (texts s) (l .loop .column) []) =
+    let j = place w in
+    let r = w .write-alpha-under .result in
+    let ends : c .match .out ≡ j .if1 .out + length (text j) =
     ⊎-elim
-    (λ v. v .3 ∙ ap (λ (n : ℕ). j .if1 .out + n) (wrote-length (w .write-alpha-under .result) _ (wrote w .0) (v .1 .given .1)))
-    (λ v. wrote-some (w .write-alpha-under .result) _ (wrote w .0) (v .1 .given .1))
+    (λ v. v .3 ∙ ap (λ (n : ℕ). j .if1 .out + n) (wrote-length r (text j) (wrote w .0) (v .1 .given .1)))
+    (λ v. wrote-some r (text j) (wrote w .0) (v .1 .given .1))
     (c .match .came) in (
       omega arith,
-      texting-turns (texts s) (a .buffer .now) (a .from) (s .pre .2) (j .if1 .buffer) (j .if1 .out) (l .loop .column) (joined j) more ends
-          (part-written (j .if1 .buffer) (j .if1 .out) (getD (texts s) (l .loop .column) []) (wrote w .1)),
+      texting-turns (joined j) (entry j .pre .2) (further j) ends (part-written (j .if1 .buffer) (j .if1 .out) (text j) (wrote w .1)),
     )
 
 slice-write-buffer-2 : tie.Need-slice-write-buffer-2 Inv-loop μ-loop
-slice-write-buffer-2 c =
-    let l = c .before in
-    let s = l .before .before in
-    let a = s .args in
-    texting-room (texts s) (a .buffer .now) (a .from) (s .pre .2) (l .loop .buffer) (l .loop .out) (l .loop .column) (l .loop .inv .1)
+slice-write-buffer-2 c = let l = c .before in texting-room (l .loop .inv .1) (l .before .before .pre .2)
 
 add-result : tie.Need-add-result Inv-loop μ-loop
 add-result c =
-    let l = c .before in
-    let s = l .before .before in
-    let a = s .args in
-    let t = l .loop .inv .1 in
-    omega (
-      arith,
-      texting-room (texts s) (a .buffer .now) (a .from) (s .pre .2) (l .loop .buffer) (l .loop .out) (l .loop .column) t,
-      texting-length (texts s) (a .buffer .now) (a .from) (s .pre .2) (l .loop .buffer) (l .loop .out) (l .loop .column) t,
-    )
+    let t = c .before .loop .inv .1 in
+    let s = c .before .before .before in
+    omega (arith, texting-room t (s .pre .2), texting-kept t (s .pre .2))
 
 same-length : tie.Need-same-length Inv-loop μ-loop
 same-length c =
     let l = c .before in
-    let s = l .before .before in
-    let a = s .args in
-    length-set (l .loop .buffer) (l .loop .out) 10
-    ∙ texting-length (texts s) (a .buffer .now) (a .from) (s .pre .2) (l .loop .buffer) (l .loop .out) (l .loop .column) (l .loop .inv .1)
+    length-set (l .loop .buffer) (l .loop .out) 10 ∙ texting-kept (l .loop .inv .1) (l .before .before .pre .2)
 
 returns : tie.Need-returns Inv-loop μ-loop
 returns c =
     let l = c .before in
     let s = l .before .before in
-    let a = s .args in
-    texting-ends (texts s) (a .buffer .now) (a .from) (s .pre .2) (l .loop .buffer) (l .loop .out) (l .loop .column) (l .loop .inv .1)
-    (omega (arith, long s, l .loop .inv .0, c .loop-test .left))
+    texting-ends (l .loop .inv .1) (s .pre .2) (omega (arith, long s, l .loop .inv .0, c .loop-test .left))
 
 pub write-record-spec : {M : Type 1} → statement M
 write-record-spec =

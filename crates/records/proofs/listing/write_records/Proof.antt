@@ -7,7 +7,7 @@ use borrow.Author.Needs.{needs}
 use lib.ListN.{length}
 use Rattle.codec.proofs.BufferLaws.{written-length}
 use Rattle.records.specs.Listing.{linesOf}
-use Rattle.records.proofs.ListingLaws.{
+use Rattle.records.proofs.LinesLaws.{
   ListedHeld,
   listed-held,
   Lining,
@@ -31,35 +31,31 @@ abbrev μ-loop : tie.MeasureT-loop
 
 -- what the code has of the file
 held : (s : tie.Start Inv-loop μ-loop) → ListedHeld (s .args .file .now) (s .args .table)
-held s = listed-held (s .args .file .now) (s .args .table) (s .pre .0)
+held s = listed-held (s .pre .0)
+
+-- the entry
+abbrev entry : tie.At-loop Inv-loop μ-loop → tie.Start Inv-loop μ-loop
+entry l = l .before .before .before .before
 
 -- the lines that are written
 lines :
-    (c : tie.At-loop Inv-loop μ-loop)
-    → Lining (c .before .before .before .before .args .file .now) (held (c .before .before .before .before) .table)
-    (c .before .before .before .before .args .buffer .now) (c .before .before .before .before .args .from)
-    (c .loop .buffer) (c .loop .out) (c .loop .at)
-lines c = c .loop .inv (held (c .before .before .before .before))
+    (l : tie.At-loop Inv-loop μ-loop)
+    → Lining (entry l .args .file .now) (held (entry l) .table) (entry l .args .buffer .now) (entry l .args .from)
+    (l .loop .buffer) (l .loop .out) (l .loop .at)
+lines l = l .loop .inv (held (entry l))
 
 -- the body at the place ends within the file
 inside :
     (c : tie.In-loop Inv-loop μ-loop)
-    → c .before .loop .at + c .before .before .before .before .before .args .table .body ≤ length (c .before .before .before .before .before .args .file .now)
+    → c .before .loop .at + entry (c .before) .args .table .body ≤ length (entry (c .before) .args .file .now)
 inside c =
     let l = c .before in
-    let s = l .before .before .before .before in
-    let a = s .args in
-    let h = held s in
-    omega (
-      arith,
-      lining-inside (a .file .now) (h .table) (a .buffer .now) (a .from) (l .loop .buffer) (l .loop .out) (l .loop .at) (lines l) (c .loop-test .taken),
-      h .held .body,
-    )
+    omega (arith, lining-inside (lines l) (c .loop-test .taken), held (entry l) .held .body)
 
 loop-holds : tie.Need-loop-holds Inv-loop μ-loop
 loop-holds c h =
     let a = c .before .before .before .args in
-    lining-starts (a .file .now) (h .table) (h .lists) (a .buffer .now) (a .from) (h .held .size)
+    lining-starts (h .lists) (a .buffer .now) (a .from) (h .held .size)
 
 add-end : tie.Need-add-end Inv-loop μ-loop
 add-end c = omega (arith, inside (c .before))
@@ -81,24 +77,19 @@ write-record-requires c κs =
     let u = c .before .before .before in
     let i = u .before .before .before in
     let l = i .before in
-    let s = l .before .before .before .before in
-    let a = s .args in
+    let s = entry l in
     let h = held s in
-    let line =
-    front-line (a .file .now) (a .table) h (a .buffer .now) (a .from) (l .loop .buffer) (l .loop .out) (l .loop .at) (lines l) (i .loop-test .taken)
-    (u .unpack-under .result) (u .unpack-under .ensures) in
-    let room =
-    lining-room (a .file .now) (h .table) (a .buffer .now) (a .from) (l .loop .buffer) (l .loop .out) (l .loop .at) (lines l) (i .loop-test .taken) (s .pre .1) in (
+    let more = i .loop-test .taken in
+    let line = front-line h (lines l) more (u .unpack-under .ensures) in (
       omega (arith, h .held .count, h .held .sound .high),
-      front-has (a .file .now) (a .table) h (a .buffer .now) (a .from) (l .loop .buffer) (l .loop .out) (l .loop .at) (lines l) (i .loop-test .taken)
-          (u .unpack-under .result) (u .unpack-under .ensures),
-      omega (arith, ap length line, room),
+      front-has h (lines l) more (u .unpack-under .ensures),
+      omega (arith, ap length line, lining-room (lines l) more (s .pre .1)),
     )
 
 loop-less : tie.Need-loop-less Inv-loop μ-loop
 loop-less c =
     let i = c .before .before .before .before .before .before .before .before .before in
-    let h = held (i .before .before .before .before .before) in
+    let h = held (entry (i .before)) in
     omega (arith, inside i, h .held .body, h .lists .some)
 
 loop-again : tie.Need-loop-again Inv-loop μ-loop
@@ -107,32 +98,21 @@ loop-again c h =
     let u = w .before .before .before .before in
     let i = u .before .before .before in
     let l = i .before in
-    let s = l .before .before .before .before in
-    let a = s .args in
     let v = l .loop .inv h in
-    lining-turns (a .file .now) (h .table) (a .buffer .now) (a .from) (l .loop .buffer) (l .loop .out) (l .loop .at) v (i .loop-test .taken) (s .pre .1)
-    (front-line (a .file .now) (a .table) h (a .buffer .now) (a .from) (l .loop .buffer) (l .loop .out) (l .loop .at) v (i .loop-test .taken)
-    (u .unpack-under .result) (u .unpack-under .ensures))
-    (w .write-record .ensures .0) (w .write-record .ensures .1)
-    (ap (λ (k : ℕ). l .loop .at + k) (h .held .body))
+    let more = i .loop-test .taken in
+    lining-turns v more (entry l .pre .1) (front-line h v more (u .unpack-under .ensures)) (w .write-record .ensures .0)
+    (w .write-record .ensures .1) (ap (λ (k : ℕ). l .loop .at + k) (h .held .body))
 
 same-length : tie.Need-same-length Inv-loop μ-loop
 same-length c =
     let l = c .before in
-    let s = l .before .before .before .before in
+    let s = entry l in
     let a = s .args in
-    let h = held s in
-    let e =
-    lining-ends (a .file .now) (h .table) (a .buffer .now) (a .from) (l .loop .buffer) (l .loop .out) (l .loop .at) (lines l) (h .lists .some) (c .loop-test .left) in
+    let e = lining-ends (lines l) (held s .lists .some) (c .loop-test .left) in
     ap length (e .1) ∙ written-length (a .buffer .now) (a .from) (linesOf (a .file .now)) (s .pre .1)
 
 returns : tie.Need-returns Inv-loop μ-loop
-returns c =
-    let l = c .before in
-    let s = l .before .before .before .before in
-    let a = s .args in
-    let h = held s in
-    lining-ends (a .file .now) (h .table) (a .buffer .now) (a .from) (l .loop .buffer) (l .loop .out) (l .loop .at) (lines l) (h .lists .some) (c .loop-test .left)
+returns c = let l = c .before in lining-ends (lines l) (held (entry l) .lists .some) (c .loop-test .left)
 
 pub write-records-spec : {M : Type 1} → statement M
 write-records-spec =

@@ -1,12 +1,12 @@
--- `print_bytes` is safe and ends: the index stays within the buffer. Assumes nothing.
+-- `shown::print_bytes` is safe and ends: the index stays within the buffer. Assumes nothing.
 use Prim.Native.Nat.{ℕ, _≤_, _-_}
 use borrow.Author.Needs.{needs}
-use Rattle.vectors.proofs.print_bytes.Statement.{statement}
-use Rattle.vectors.proofs.print_bytes.Tie as tie
+use Rattle.vectors.proofs.shown.print_bytes.Statement.{statement}
+use Rattle.vectors.proofs.shown.print_bytes.Tie as tie
 
 -- the buffer's length
 abbrev room : ℕ
-room = 20
+room = 256
 
 abbrev Inv-loop : tie.InvT-loop
 Inv-loop size hexadecimal buffer i₀ i = i ≤ room
