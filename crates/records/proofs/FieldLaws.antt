@@ -8,8 +8,8 @@ use mathlib.Core.List.{List, [], _∷_, _++_, append-assoc, append-nil}
 use mathlib.Core.Logic.{⊎-elim}
 use mathlib.Core.Bool.{Bool, true, false, not, _&&_}
 use lib.Dec.{ltb, eqb}
-use lib.ListN.{length, take, drop, getD, set, length-drop, drop-of-length-le}
-use lib.Seq.{paste, paste-suc, drop-cons, drop-drop, take-length}
+use lib.ListN.{length, take, drop, getD, length-drop, drop-of-length-le}
+use lib.Seq.{drop-cons, drop-drop, take-length}
 use borrow.Author.Tests.{eq-eqb, ne-eqb, lt-leb}
 use Rattle.decimal.specs.declared.image.Sign.{Sign}
 use Rattle.decimal.specs.declared.image.Sign.the-variants.{Unsigned, Plus, Minus}
