@@ -30,6 +30,7 @@ use Rattle.decimal.proofs.NumberLaws.{normal-high}
 use Rattle.decimal.proofs.ImageLaws.{read-done}
 use Rattle.decimal.proofs.TruncationLaws.{truncation-fit, truncation-done, fit-exponential, stored-zero, stored-fixed, stored-exponential}
 use Rattle.decimal.proofs.KeptLaws.{kept-whole}
+use Rattle.decimal.proofs.AnswerLaws.{never, one-answer}
 use Rattle.codec.specs.Lists.{storedIn}
 use Rattle.codec.proofs.ListLaws.{getD-before, getD-behind}
 use Rattle.codec.proofs.BodyLaws.{digit-at}
@@ -401,14 +402,6 @@ module _ (a : Answer (List ℕ)) (buffer : List ℕ) where
 
 -- What a number's text is, and when it is refused.
 
--- an answer has one text
-same-text : {a : Answer (List ℕ)} {x y : List ℕ} → a ≡ done x → a ≡ done y → x ≡ y
-same-text p q = cc
-
--- a refusal has none
-never-text : {A : Type 0} {a : Answer (List ℕ)} {x : List ℕ} {number place : ℕ} → a ≡ done x → a ≡ refused number place → A
-never-text p q = let z : _≡_ {A = ℕ} 0 1 = cc in absurd (omega arith)
-
 -- the truncation that the code has found
 pub record Found (im : Image) (n : Number) (r : Truncation) : Type 0 where
   pub to : Truncated
@@ -513,8 +506,8 @@ module _ (im : Image) (n : Number) where
   alpha-under-length {text} h = go (truncation 0 im n) refl
     where
       go : (a : Answer Truncated) → truncation 0 im n ≡ a → length text ≡ textLength im
-      go (done t) e = ap length (same-text h (under-done e)) ∙ text-length im t
-      go (refused number place) e = never-text h (under-refused e)
+      go (done t) e = ap length (one-answer h (under-done e)) ∙ text-length im t
+      go (refused number place) e = never (under-refused e) h
 
   module _ (room : ℕ) where
     -- a number that has no text is refused as that says
@@ -559,7 +552,7 @@ module _ (bytes : List ℕ) (n : Number) where
     where
       go : (a : Answer Image) → readImage 0 bytes ≡ a → length text ≡ length bytes
       go (done im) read = alpha-under-length im n (sym (alpha-read im read) ∙ h) ∙ sym (read-length 0 bytes read)
-      go (refused number place) read = never-text h (alpha-image read)
+      go (refused number place) read = never (alpha-image read) h
 
   module _ (room : ℕ) where
     -- a number that has no text is refused as that says

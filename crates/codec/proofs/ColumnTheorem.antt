@@ -26,23 +26,16 @@ use Rattle.decimal.proofs.DigitLaws.{le-or-lt, leading-unique, leading-low, lea
 use Rattle.decimal.proofs.NumberLaws.{InRange, normal-range, normal-high, range-normal, zero-normal, scaled-zero, scaled-shifted, shifted-below, shifted-above, shifted-done}
 use Rattle.decimal.proofs.TruncationLaws.{truncation-fit, fit-truncation, packed-refused, packed-signed, packed-negative, packed-unsigned, exceeds-zero, exceeds-range, outside-zero, outside-above, fit-exponential, stored-zero, stored-exponential, stored-fixed, kept-exponential, kept-fixed}
 use Rattle.decimal.proofs.KeptLaws.{whole-zero, kept-size, kept-whole, kept-none, number-none, number-some}
+use Rattle.decimal.proofs.AnswerLaws.{never-done, never, one-answer}
 use Rattle.codec.specs.Lists.{anyOf}
 use Rattle.codec.specs.Contents.{Checked, signCount, exponentCount, halfCount, padCount, columnSize}
 use Rattle.codec.specs.Body.{exponentSize, signHalf, signHalves, exponentHalves, columnHalves, packHalves, columnBytes}
 use Rattle.codec.specs.Order.{Bytes}
 use Rattle.codec.specs.Unpacking.{halvesOf, allDigits, allZero, signPart, digitPart, exponentPart, padPart, minusBit, belowBit, saidBy, breaksRules, asHalf, partsNumber, halvesNumber, unpackColumn}
 use Rattle.codec.proofs.ContentsLaws.{column-halves}
-use Rattle.codec.proofs.HalfLaws.{Halves, packHalves-length, halves-of-packed, packed-of-halves, halves-length, bytes-halves, column-halves-below, column-halves-length}
+use Rattle.codec.proofs.HalfLaws.{Halves, packHalves-length, halves-of-packed, packed-of-halves, halves-length, bytes-halves, column-halves-below, sign-halves-length, exponent-halves-length, column-halves-length}
 
 -- Answers and tests.
-
--- an answer has one result
-one-answer : {A : Type 0} {a : Answer A} {m n : A} → a ≡ done m → a ≡ done n → m ≡ n
-one-answer p q = cc
-
--- and is not refused besides
-never : {A B : Type 0} {a : Answer A} {m : A} {number place : ℕ} → a ≡ refused number place → a ≡ done m → B
-never p q = let z : _≡_ {A = ℕ} 0 1 = cc in absurd (omega arith)
 
 -- a test has one value
 two-values : {B : Type 0} {b : Bool} → b ≡ true → b ≡ false → B
@@ -366,19 +359,6 @@ pass-zeros (d ∷ ds) h =
     ap₂ (λ (a : ℕ) (l : List ℕ). a ∷ l) (sym (eqb-true d 0 (p .0))) (pass-zeros ds (p .1))
 
 -- Packing a column and reading it back.
-
--- the sign halves are as many as the image has
-sign-halves-length : (s : Sign) (t : Truncated) → length (signHalves s t) ≡ signCount s
-unfolding signHalves
-sign-halves-length Unsigned t = refl
-sign-halves-length Plus t = refl
-sign-halves-length Minus t = refl
-
--- the exponent halves are as many as the image has
-exponent-halves-length : (b : Bool) (t : Truncated) → length (exponentHalves b t) ≡ exponentCount b
-unfolding exponentHalves
-exponent-halves-length true t = digits-length 2 (exponentSize t)
-exponent-halves-length false t = refl
 
 -- the exponent halves are digits
 exponent-halves-digits : (b : Bool) (t : Truncated) → Digits (exponentHalves b t)
@@ -765,7 +745,7 @@ record HalvesPass (column : ℕ) (im : Image) (hs : List ℕ) (n : Number) : Typ
 as-half-view : (column : ℕ) (a : Answer Number) {n : Number} → asHalf column a ≡ done n → a ≡ done n
 unfolding asHalf
 as-half-view column (done m) h = h
-as-half-view column (refused x y) {n} h = never {m = n} refl h
+as-half-view column (refused x y) {n} h = never-done h
 
 -- only parts that break no rule are read
 parts-view :
@@ -779,7 +759,7 @@ parts-view column im sign whole size {n} h = go (breaksRules im sign whole size)
         → breaksRules im sign whole size ≡ b
         → pick b (refused 7 column) (asHalf column (numberOf column im (saidBy sign whole size))) ≡ done n
         → (breaksRules im sign whole size ≡ false) × (numberOf column im (saidBy sign whole size) ≡ done n)
-    go true e g = never {m = n} refl g
+    go true e g = never-done g
     go false e g = (e, as-half-view column (numberOf column im (saidBy sign whole size)) g)
 
 -- only halves whose parts pass the tests are read
@@ -795,7 +775,7 @@ halves-view column im hs {n} h = go (anyOf tests) refl h
         → anyOf tests ≡ b
         → pick b (refused 7 column) (partsNumber column im (signPart (im .sign) hs) (valueOf (digitPart im hs)) (valueOf (exponentPart im hs))) ≡ done n
         → HalvesPass column im hs n
-    go true e g = never {m = n} refl g
+    go true e g = never-done g
     go false e g =
         let one = any-none (not (allDigits (digitPart im hs))) (not (allDigits (exponentPart im hs)) ∷ (not (allZero (padPart im hs)) ∷ [])) e in
         let two = any-none (not (allDigits (exponentPart im hs))) (not (allZero (padPart im hs)) ∷ []) (one .1) in

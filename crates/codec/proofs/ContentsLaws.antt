@@ -18,6 +18,7 @@ use Rattle.decimal.specs.Digits.{precision}
 use Rattle.decimal.specs.Image.{hashes, readImage}
 use Rattle.decimal.proofs.BoolLaws.{and-true}
 use Rattle.decimal.proofs.ImageLaws.{read-done}
+use Rattle.decimal.proofs.AnswerLaws.{never-done, then-done}
 use Rattle.codec.specs.declared.contents.Contents.{Contents}
 use Rattle.codec.specs.declared.contents.ContentsAnswer.the-variants as gives
 use Rattle.codec.specs.Lists.{filled}
@@ -46,22 +47,6 @@ use Rattle.codec.specs.Contents.{
   contentsOf,
   noImage,
 }
-
--- a refused answer is not done
-pub never-done : {A B : Type 0} {number place : ℕ} {a : A} → _≡_ {A = Answer A} (refused number place) (done a) → B
-never-done h = let z : _≡_ {A = ℕ} 0 1 = cc in absurd (omega arith)
-
--- two steps that are done: the first is, and the second is of its result
-pub record Both {A B : Type 0} (a : Answer A) (f : A → Answer B) (b : B) : Type 0 where
-  pub value : A
-  pub first : a ≡ done value
-  pub second : f value ≡ done b
-
--- an answer of two steps that is done is both
-pub then-done : {A B : Type 0} (a : Answer A) (f : A → Answer B) {b : B} → (a then f) ≡ done b → Both a f b
-unfolding _then_
-then-done (done x) f h = record { value = x; first = refl; second = h }
-then-done (refused x y) f h = never-done h
 
 -- the image of each column is one of 1 to 13 # signs
 pub checked-at : {ims : List Image} → AllChecked ims → (i : ℕ) → i < length ims → Checked (getD ims i noImage)

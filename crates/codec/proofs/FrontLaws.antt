@@ -32,7 +32,8 @@ use Rattle.codec.specs.Contents.{
 }
 use Rattle.codec.specs.Alpha.{textLength, lineLength}
 use Rattle.codec.proofs.UnderLaws.{checked-checks}
-use Rattle.codec.proofs.ContentsLaws.{never-done, then-done, contents-sound, alone-same, column-some, column-inside}
+use Rattle.decimal.proofs.AnswerLaws.{never-done, then-done}
+use Rattle.codec.proofs.ContentsLaws.{contents-sound, alone-same, column-some, column-inside}
 use Rattle.codec.proofs.AlphaLaws.{image-length}
 
 -- Bytes that begin alike.

@@ -143,14 +143,14 @@ column-halves-below im t =
     (halves-append (exponent-halves-below (im .exponential) t) (zeros-halves (padCount im))))
 
 -- the length of the sign part
-sign-halves-length : (s : Sign) (t : Truncated) → length (signHalves s t) ≡ signCount s
+pub sign-halves-length : (s : Sign) (t : Truncated) → length (signHalves s t) ≡ signCount s
 unfolding signHalves
 sign-halves-length Unsigned t = refl
 sign-halves-length Plus t = refl
 sign-halves-length Minus t = refl
 
 -- the length of the exponent part
-exponent-halves-length : (b : Bool) (t : Truncated) → length (exponentHalves b t) ≡ exponentCount b
+pub exponent-halves-length : (b : Bool) (t : Truncated) → length (exponentHalves b t) ≡ exponentCount b
 unfolding exponentHalves
 exponent-halves-length true t = digits-length 2 (exponentSize t)
 exponent-halves-length false t = refl

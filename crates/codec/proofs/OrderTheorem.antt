@@ -24,6 +24,7 @@ use Rattle.decimal.proofs.DigitLaws.{le-or-lt, digits-length, order-of-digits}
 use Rattle.decimal.proofs.MagnitudeLaws.{scaled-magnitude}
 use Rattle.decimal.proofs.TruncationLaws.{fit-truncation, truncation-fit, truncation-done, stored-zero, stored-fixed}
 use Rattle.decimal.proofs.KeptLaws.{truncates-to-itself}
+use Rattle.decimal.proofs.AnswerLaws.{done-same, then-done}
 use Rattle.codec.specs.Contents.{Table, readAlone, padCount}
 use Rattle.codec.specs.Body.{signHalves, exponentHalves, columnHalves, packHalves, columnBytes, packColumns, packList, bodyOf}
 use Rattle.codec.specs.Order.{UnsignedFixed, AllUnsignedFixed, magnitudeIn, truncatedMagnitudes, FirstSmaller}
@@ -95,16 +96,6 @@ same-tail [] h = h
 same-tail {us} {vs} (x ∷ xs) h = let rest : xs ++ us ≡ xs ++ vs = cc in same-tail xs rest
 
 -- What a column tells.
-
--- both steps of an answer that is no refusal
-then-done : {A B : Type 0} (a : Answer A) (f : A → Answer B) {b : B} → (a then f) ≡ done b → (x : A) × (a ≡ done x) × (f x ≡ done b)
-unfolding _then_
-then-done (done x) f h = (x, refl, h)
-then-done (refused number place) f h = let z : _≡_ {A = ℕ} 0 1 = cc in absurd (omega arith)
-
--- an answer has one result
-done-path : {A : Type 0} {a b : A} → _≡_ {A = Answer A} (done a) (done b) → a ≡ b
-done-path h = cc
 
 -- a test that does not refuse
 pick-done : {A : Type 0} (b : Bool) (number place : ℕ) (a : A) {c : A} → pick b (refused number place) (done a) ≡ done c → a ≡ c
@@ -186,10 +177,10 @@ module _ (im : Image) (kind : UnsignedFixed im) where
   unfolding packedTruncation packable
   column-of place n {t} h =
       let both = then-done (truncation place im n) (packable place im) h in
-      let u = both .0 in
-      let same : u ≡ t = pick-done (not (isSigned (im .sign)) && ltb (u .x) exponentLimit) 5 place u (both .2) in
-      let fit = truncation-fit place im n (both .1) in
-      subst (λ (v : Truncated). Column im n v) (sym (truncation-done place im n (both .1)) ∙ same)
+      let u = both .value in
+      let same : u ≡ t = pick-done (not (isSigned (im .sign)) && ltb (u .x) exponentLimit) 5 place u (both .second) in
+      let fit = truncation-fit place im n (both .first) in
+      subst (λ (v : Truncated). Column im n v) (sym (truncation-done place im n (both .first)) ∙ same)
       (record { fits = whole-fits n fit; means = whole-means n fit })
 
 -- Whole numbers and magnitudes, which are a constant apart.
@@ -366,8 +357,8 @@ parts-of :
 unfolding packColumns
 parts-of place im ims n ns {a} h =
     let first = then-done (packedTruncation place im n) _ h in
-    let second = then-done (packColumns (suc place) ims ns) _ (first .2) in
-    record { to = first .0; packed = first .1; rest = second .0; others = second .1; joined = done-path (second .2) }
+    let second = then-done (packColumns (suc place) ims ns) _ (first .second) in
+    record { to = first .value; packed = first .first; rest = second .value; others = second .first; joined = done-same (second .second) }
 
 -- a list that packs has the columns' length
 listed :
@@ -395,7 +386,7 @@ compared-columns :
     → Compared a b (truncatedMagnitudes ims ms) (truncatedMagnitudes ims ns)
 unfolding packColumns truncatedMagnitudes
 compared-columns AllUnsignedFixed.none place ms ns {a} {b} p q h g =
-    compared-paths (done-path h) (done-path g) compared-none
+    compared-paths (done-same h) (done-same g) compared-none
 compared-columns (AllUnsignedFixed.more kind kinds) place [] ns p q h g = absurd (omega arith)
 compared-columns (AllUnsignedFixed.more kind kinds) place (m ∷ ms) [] p q h g = absurd (omega arith)
 compared-columns (AllUnsignedFixed.more {im} {ims} kind kinds) place (m ∷ ms) (n ∷ ns) {a} {b} p q h g =

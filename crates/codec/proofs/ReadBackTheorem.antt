@@ -15,6 +15,7 @@ use Rattle.decimal.specs.declared.image.Image.{Image}
 use Rattle.decimal.specs.declared.number.Number.{Number}
 use Rattle.decimal.specs.Answer.{Answer, done, refused, _then_, pick}
 use Rattle.decimal.specs.Truncation.{Truncated, packedTruncation}
+use Rattle.decimal.proofs.AnswerLaws.{never-done, done-same, then-done, then-both}
 use Rattle.codec.specs.Contents.{AllChecked, Table, columnSize, bodySize, readAlone}
 use Rattle.codec.specs.Body.{columnBytes, packColumns, packList, bodyOf}
 use Rattle.codec.specs.Unpacking.{unpackColumn, unpackColumns, unpackBody, unpacking}
@@ -24,30 +25,10 @@ use Rattle.codec.proofs.ColumnTheorem.{column-bytes-length, column-acce
 
 -- Answers in order.
 
--- a refusal is no result
-never : {A B : Type 0} {a : Answer A} {m : A} {number place : ℕ} → a ≡ refused number place → a ≡ done m → B
-never p q = let z : _≡_ {A = ℕ} 0 1 = cc in absurd (omega arith)
-
--- results are equal where the answers are
-done-same : {A : Type 0} {m n : A} → _≡_ {A = Answer A} (done m) (done n) → m ≡ n
-done-same p = cc
-
--- where two steps give a result, the first does
-then-view :
-    {A B : Type 0} (a : Answer A) (f : A → Answer B) {b : B} → (a then f) ≡ done b → (x : A) × (a ≡ done x) × (f x ≡ done b)
-unfolding _then_
-then-view (done x) f h = (x, refl, h)
-then-view (refused number place) f {b} h = never {m = b} refl h
-
--- and the other way
-then-done : {A B : Type 0} {a : Answer A} (f : A → Answer B) {x : A} {b : B} → a ≡ done x → f x ≡ done b → (a then f) ≡ done b
-unfolding _then_
-then-done f p q = rw p q
-
 -- a test that was passed
 pick-view : {A : Type 0} (t : Bool) (a : Answer A) (number place : ℕ) {b : A} → pick t a (refused number place) ≡ done b → (t ≡ true) × (a ≡ done b)
 pick-view true a number place h = (refl, h)
-pick-view false a number place {b} h = never {m = b} refl h
+pick-view false a number place {b} h = never-done h
 
 -- Columns.
 
@@ -75,9 +56,9 @@ pack-view :
     → PackStep column im ims n ns body
 unfolding packColumns
 pack-view column im ims n ns {body} h =
-    let one = then-view (packedTruncation column im n) (λ t. (packColumns (suc column) ims ns then λ rest. done (columnBytes im t ++ rest))) h in
-    let two = then-view (packColumns (suc column) ims ns) (λ rest. done (columnBytes im (one .0) ++ rest)) (one .2) in
-    record { to = one .0; rest = two .0; first = one .1; others = two .1; joined = done-same (two .2) }
+    let one = then-done (packedTruncation column im n) (λ t. (packColumns (suc column) ims ns then λ rest. done (columnBytes im t ++ rest))) h in
+    let two = then-done (packColumns (suc column) ims ns) (λ rest. done (columnBytes im (one .value) ++ rest)) (one .second) in
+    record { to = one .value; rest = two .value; first = one .first; others = two .first; joined = done-same (two .second) }
 
 -- one column more is read
 unpack-step :
@@ -103,9 +84,9 @@ pub unpack-view :
     → UnpackStep column im ims bytes ns
 unfolding unpackColumns
 unpack-view column im ims bytes {ns} h =
-    let one = then-view (unpackColumn column im (take (columnSize im) bytes)) (λ n. (unpackColumns (suc column) ims (drop (columnSize im) bytes) then λ ns. done (n ∷ ns))) h in
-    let two = then-view (unpackColumns (suc column) ims (drop (columnSize im) bytes)) (λ ns. done (one .0 ∷ ns)) (one .2) in
-    record { number = one .0; numbers = two .0; first = one .1; others = two .1; joined = done-same (two .2) }
+    let one = then-done (unpackColumn column im (take (columnSize im) bytes)) (λ n. (unpackColumns (suc column) ims (drop (columnSize im) bytes) then λ ns. done (n ∷ ns))) h in
+    let two = then-done (unpackColumns (suc column) ims (drop (columnSize im) bytes)) (λ ns. done (one .value ∷ ns)) (one .second) in
+    record { number = one .value; numbers = two .value; first = one .first; others = two .first; joined = done-same (two .second) }
 
 -- Reading back what was packed.
 
@@ -288,7 +269,8 @@ contents-packs :
     → bodyOf contents ns ≡ done body
     → (table : Table) × (readAlone contents ≡ done table) × (packList (table .images) ns ≡ done body)
 unfolding bodyOf
-contents-packs contents ns h = then-view (readAlone contents) (λ table. packList (table .images) ns) h
+contents-packs contents ns h =
+    let b = then-done (readAlone contents) (λ table. packList (table .images) ns) h in (b .value, b .first, b .second)
 
 -- and the other way
 packs-contents :
@@ -297,7 +279,7 @@ packs-contents :
     → packList (table .images) ns ≡ done body
     → bodyOf contents ns ≡ done body
 unfolding bodyOf
-packs-contents contents ns p q = then-done (λ (table : Table). packList (table .images) ns) p q
+packs-contents contents ns p q = then-both (λ (table : Table). packList (table .images) ns) p q
 
 -- a body is read where the contents is read and the body is read under its images
 contents-unpacks :
@@ -305,7 +287,8 @@ contents-unpacks :
     → unpacking contents body ≡ done ns
     → (table : Table) × (readAlone contents ≡ done table) × (unpackBody (table .images) body ≡ done ns)
 unfolding unpacking
-contents-unpacks contents body h = then-view (readAlone contents) (λ table. unpackBody (table .images) body) h
+contents-unpacks contents body h =
+    let b = then-done (readAlone contents) (λ table. unpackBody (table .images) body) h in (b .value, b .first, b .second)
 
 -- and the other way
 unpacks-contents :
@@ -314,7 +297,7 @@ unpacks-contents :
     → unpackBody (table .images) body ≡ done ns
     → unpacking contents body ≡ done ns
 unfolding unpacking
-unpacks-contents contents body p q = then-done (λ (table : Table). unpackBody (table .images) body) p q
+unpacks-contents contents body p q = then-both (λ (table : Table). unpackBody (table .images) body) p q
 
 -- Published: the body that a list packs to under a contents is read back as the list's truncations, which pack to it again.
 pub contents-read-back :

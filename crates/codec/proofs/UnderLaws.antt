@@ -35,7 +35,8 @@ use Rattle.codec.specs.Contents.{
 use Rattle.codec.specs.Body.{packList, bodyOf, packUnder, packingUnder, packing}
 use Rattle.codec.specs.Unpacking.{unpackBody, unpackUnder, unpacking}
 use Rattle.codec.proofs.ListLaws.{filled-length, filled-front, filled-take, taken-from}
-use Rattle.codec.proofs.ContentsLaws.{never-done, then-done, Sound, alone-sound, ReadOk, alone-read}
+use Rattle.decimal.proofs.AnswerLaws.{never-done, then-done}
+use Rattle.codec.proofs.ContentsLaws.{Sound, alone-sound, ReadOk, alone-read}
 
 -- Which images a contents can have.
 

@@ -24,6 +24,7 @@ use Rattle.decimal.specs.Truncation.{numberOf}
 use Rattle.decimal.proofs.BoolLaws.{and-true, zero-or-not}
 use Rattle.decimal.proofs.DigitLaws.{le-or-lt, value-append, value-below}
 use Rattle.decimal.proofs.PowerLaws.{pow10-suc, pow10-mono, times-ten}
+use Rattle.decimal.proofs.AnswerLaws.{then-same}
 use Rattle.codec.specs.declared.unpacking.UnpackAnswer.the-variants as gives
 use Rattle.codec.specs.declared.unpacking.Unpacked.{Unpacked}
 use Rattle.codec.specs.Lists.{filled, anyOf}
@@ -490,12 +491,6 @@ module _ (column : ℕ) (im : Image) (sign : ℕ) where
 
 -- The columns, from the left.
 
--- an answer that is passed on
-then-done : {A : Type 0} (a : Answer A) → (a then λ (x : A). done x) ≡ a
-unfolding _then_
-then-done (done x) = refl
-then-done (refused number place) = refl
-
 -- one number more before those that follow
 then-twice :
     (a : Answer (List Number)) (ns : List Number) (n : Number)
@@ -523,7 +518,7 @@ columns-start ims body sized =
       stored = refl;
       inside = omega arith;
       left = omega arith;
-      rest = sym (then-done (unpackColumns 0 ims body));
+      rest = sym (then-same (unpackColumns 0 ims body));
     }
 
 module _ {ims : List Image} {body : List ℕ} {values : List Number} {start column : ℕ} {im : Image} (u : Unpacking ims body values start column)

@@ -29,7 +29,7 @@ use Rattle.codec.specs.Text.{TextParts, Legal, HasForm, fractionDigits, 
 use Rattle.codec.specs.Text.{blanksIn, signIn, digitsIn, pointIn, powerIn, partsIn, legalLength, convertText, readTexts}
 use Rattle.codec.specs.Walking.{nextIn, bytesBefore, numberPlace, FirstPlace, stopBefore, stopped, numbersIn, walking, lineEnd}
 use Rattle.codec.specs.Walking.{LineBack}
-use Rattle.codec.proofs.ContentsLaws.{then-done}
+use Rattle.decimal.proofs.AnswerLaws.{then-done}
 use Rattle.codec.proofs.TextLaws.{legal-none, beginning-some}
 use Rattle.codec.proofs.PartLaws.{stops-byte, starts-body, sign-no-blank}
 use Rattle.codec.proofs.FormLaws.{Ends, ends-blanks, ends-last, text-append, text-length, text-long, parts-before, length-some}

@@ -17,12 +17,13 @@ use Rattle.decimal.specs.declared.image.Image.{Image}
 use Rattle.decimal.specs.declared.image.Scan.{Scan}
 use Rattle.decimal.specs.declared.image.State.{State}
 use Rattle.decimal.specs.declared.image.State.the-variants.{Start, Signed, Integer, Comma, Point, Fraction, Up, Stopped}
-use Rattle.decimal.specs.Answer.{Answer, done, refused}
+use Rattle.decimal.specs.Answer.{done, refused}
 use Rattle.decimal.specs.Digits.{precision}
 use Rattle.decimal.specs.Image.{plusByte, minusByte, hashByte, pointByte, ups}
 use Rattle.decimal.specs.Image.{signBytes, times, fractionBytes, upBytes, imageBytes, hashes, IsImage}
 use Rattle.decimal.specs.Image.{afterUp, nextState, runState, isImage, isExponential, integerHash, fractionHash, counted, integersFrom, fractionsFrom}
 use Rattle.decimal.specs.Image.{signOf, leadingSign, checkImage, scannedImage, scanOf, readImage, ReadsAs, within, tooMany, noImage}
+use Rattle.decimal.proofs.AnswerLaws.{never, one-answer}
 use Rattle.decimal.proofs.ImageTails.{key, some-image}
 
 -- An image runs to its counts.
@@ -182,24 +183,16 @@ reads-exactly place bytes = go (isImage (runState Start bytes)) refl
     go true h = sized (scanned-sound bytes h) (ltb precision (hashes (scannedImage bytes))) refl
     go false h = noImage (no-image bytes h) (reads-refused place bytes h)
 
--- a refusal is no result
-never-done : {A : Type 0} {number place : ℕ} {j : Image} {a : Answer Image} → a ≡ refused number place → a ≡ done j → A
-never-done p q = let z : _≡_ {A = ℕ} 0 1 = cc in absurd (omega arith)
-
--- a result is one result
-same-done : {a : Answer Image} {i j : Image} → a ≡ done i → a ≡ done j → j ≡ i
-same-done p q = cc
-
 -- what a check passes is the image itself, with at least one # and no more than precision
 pub check-image-done : (place : ℕ) (im j : Image) → checkImage place im ≡ done j → (j ≡ im) × (0 < hashes im) × (hashes im ≤ precision)
 check-image-done place im j e = some (key (hashes im) 0)
   where
     few : 0 < hashes im → (t : Bool) → ltb precision (hashes im) ≡ t → (j ≡ im) × (0 < hashes im) × (hashes im ≤ precision)
-    few p true h = never-done (check-many place im (ltb-true _ _ h)) e
-    few p false h = let l = ltb-false _ _ h in (same-done (check-within place im p l) e, p, l)
+    few p true h = never (check-many place im (ltb-true _ _ h)) e
+    few p false h = let l = ltb-false _ _ h in (one-answer e (check-within place im p l), p, l)
 
     some : (hashes im ≡ 0) ⊎ (eqb (hashes im) 0 ≡ false) → (j ≡ im) × (0 < hashes im) × (hashes im ≤ precision)
-    some (inl z) = never-done (check-none place im z) e
+    some (inl z) = never (check-none place im z) e
     some (inr n) =
         let m : hashes im ≡ 0 → ⊥ = eqb-false _ _ n in
         few (omega arith) (ltb precision (hashes im)) refl
@@ -210,9 +203,9 @@ read-done place bytes im e = go (reads-exactly place bytes)
   where
     go : ReadsAs place bytes → IsImage bytes im × (hashes im ≤ precision)
     go (within j r h q) =
-        subst⁻¹ (λ (i : Image). IsImage bytes i × (hashes i ≤ precision)) (same-done q e) (r, h)
-    go (tooMany j r h q) = never-done q e
-    go (noImage n q) = never-done q e
+        subst⁻¹ (λ (i : Image). IsImage bytes i × (hashes i ≤ precision)) (one-answer e q) (r, h)
+    go (tooMany j r h q) = never q e
+    go (noImage n q) = never q e
 
 -- The code's tables, where a test picks the case.
 

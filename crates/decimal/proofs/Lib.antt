@@ -1,5 +1,6 @@
 -- The laws of layer 1, from the lowest up.
 pub mod BoolLaws
+pub mod AnswerLaws
 pub mod PowerLaws
 pub mod DigitLaws
 pub mod Table

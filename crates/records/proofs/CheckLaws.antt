@@ -24,6 +24,7 @@ use Rattle.decimal.specs.Image.{hashes, scannedImage, scanOf, nextState, intege
 use Rattle.decimal.proofs.DigitLaws.{le-or-lt}
 use Rattle.decimal.proofs.BoolLaws.{zero-or-not}
 use Rattle.decimal.proofs.ImageLaws.{hash-once}
+use Rattle.decimal.proofs.AnswerLaws.{then-last, then-next, then-refused}
 use Rattle.codec.proofs.ListLaws.{filled-length, filled-at}
 use Rattle.records.specs.declared.fields.Element.{Element}
 use Rattle.records.specs.declared.fields.Element.the-variants as element
@@ -257,16 +258,6 @@ reached-next {line} {k} r = reached-over (length (literals (drop k line))) r ref
 
 -- Elements.
 
--- an answer that goes on with a step that is done
-pub then-done : {A B : Type 0} (f : A → Answer B) {a : A} {r : Answer A} → r ≡ done a → (r then f) ≡ f a
-unfolding _then_
-then-done f {a} e = ap (λ (x : Answer _). x then f) e
-
--- an answer that stops with a refusal
-pub then-refused : {A B : Type 0} (f : A → Answer B) {number place : ℕ} {r : Answer A} → r ≡ refused number place → (r then f) ≡ refused number place
-unfolding _then_
-then-refused f {number} {place} e = ap (λ (x : Answer _). x then f) e
-
 -- the list of an array has as many elements as are counted
 pub element-count : (elements : List Element) (count : ℕ) → length (elementList elements count) ≡ count
 unfolding elementList
@@ -297,21 +288,15 @@ unfolding checkElement
 checked-anywhere room i j (element.Number n) h = same-test (normal n) 3 i j h
 checked-anywhere room i j (element.Text from size) h = same-test (leb (from + size) room) textOutside i j h
 
--- two steps that are done
-then-both : (r s : Answer (Unit {0})) → (r then λ _. s) ≡ done tt → (r ≡ done tt) × (s ≡ done tt)
-unfolding _then_
-then-both (done tt) s h = (refl, h)
-then-both (refused number place) s h = let z : _≡_ {A = ℕ} 0 1 = cc in absurd (omega arith)
-
 -- elements that are not refused, from any place on
 element-from : (room index : ℕ) (es : List Element) → checkElements room index es ≡ done tt → (i : ℕ) (d : Element) → i < length es
     → checkElement room 0 (getD es i d) ≡ done tt
 unfolding checkElements
 element-from room index [] h i d l = absurd (omega arith)
 element-from room index (e ∷ es) h zero d l =
-    checked-anywhere room index 0 e (then-both (checkElement room index e) (checkElements room (suc index) es) h .0)
+    checked-anywhere room index 0 e (then-last (checkElement room index e) (checkElements room (suc index) es) h .0)
 element-from room index (e ∷ es) h (suc i) d l =
-    element-from room (suc index) es (then-both (checkElement room index e) (checkElements room (suc index) es) h .1) i d (omega arith)
+    element-from room (suc index) es (then-last (checkElement room index e) (checkElements room (suc index) es) h .1) i d (omega arith)
 
 -- each element of a line not refused can be printed
 pub element-at : (room : ℕ) (es : List Element) → checkElements room 0 es ≡ done tt → (i : ℕ) (d : Element) → i < length es
@@ -332,7 +317,7 @@ elements-refused room index es d h e = elements-cons room index es d h ∙ then-
 -- one that is not
 pub elements-next : (room index : ℕ) (es : List Element) (d : Element) → index < length es
     → checkElement room index (getD es index d) ≡ done tt → checkElements room (index + 1) (drop (index + 1) es) ≡ checkElements room index (drop index es)
-elements-next room index es d h e = sym (elements-cons room index es d h ∙ then-done (λ _. checkElements room (index + 1) (drop (index + 1) es)) e)
+elements-next room index es d h e = sym (elements-cons room index es d h ∙ then-next (λ _. checkElements room (index + 1) (drop (index + 1) es)) e)
 
 -- behind the last one nothing is refused
 pub elements-end : (room index : ℕ) (es : List Element) → length es ≤ index → checkElements room index (drop index es) ≡ done tt
@@ -415,19 +400,19 @@ module _ (line : List ℕ) (es : List Element) (room : ℕ) where
   pub line-fields : {number place : ℕ} → checkCounts (length es) (length line) ≡ done tt → checkFields 0 0 line ≡ refused number place
       → lineChecks line es room ≡ refused number place
   unfolding lineChecks
-  line-fields h f = then-done _ h ∙ then-refused _ f
+  line-fields h f = then-next _ h ∙ then-refused _ f
 
   -- refused for want of a field
   pub line-some : {number place : ℕ} → checkCounts (length es) (length line) ≡ done tt → checkFields 0 0 line ≡ done tt
       → checkSome line es ≡ refused number place → lineChecks line es room ≡ refused number place
   unfolding lineChecks
-  line-some h f g = then-done _ h ∙ then-done _ f ∙ then-refused _ g
+  line-some h f g = then-next _ h ∙ then-next _ f ∙ then-refused _ g
 
   -- else as its elements
   pub line-elements : checkCounts (length es) (length line) ≡ done tt → checkFields 0 0 line ≡ done tt → checkSome line es ≡ done tt
       → lineChecks line es room ≡ checkElements room 0 es
   unfolding lineChecks
-  line-elements h f g = then-done _ h ∙ then-done _ f ∙ then-done _ g
+  line-elements h f g = then-next _ h ∙ then-next _ f ∙ then-next _ g
 
 -- checks one after the other
 then-again : {A : Type 0} (r s : Answer (Unit {0})) (f : Answer A) → (r then λ _. (s then λ _. f)) ≡ ((r then λ _. s) then λ _. f)
@@ -440,9 +425,9 @@ pub line-passed : (line : List ℕ) (es : List Element) (room : ℕ) → lineChe
     → (checkCounts (length es) (length line) ≡ done tt) × (checkFields 0 0 line ≡ done tt) × (checkSome line es ≡ done tt) × (checkElements room 0 es ≡ done tt)
 unfolding lineChecks
 line-passed line es room h =
-    let a = then-both (checkCounts (length es) (length line)) _ h in
-    let b = then-both (checkFields 0 0 line) _ (a .1) in
-    let d = then-both (checkSome line es) _ (b .1) in
+    let a = then-last (checkCounts (length es) (length line)) _ h in
+    let b = then-last (checkFields 0 0 line) _ (a .1) in
+    let d = then-last (checkSome line es) _ (b .1) in
     (a .0, b .0, d .0, d .1)
 
 -- a line is checked, then printed
@@ -462,7 +447,7 @@ printed-checks line es texts =
 -- a forecast within the limits
 pub forecast-done : (count size : ℕ) → count ≤ maxElements → size ≤ maxLine → forecasting count size ≡ done ((count + 1) * (size + 1))
 unfolding forecasting
-forecast-done count size h l = then-done _ (counts-done count size h l)
+forecast-done count size h l = then-next _ (counts-done count size h l)
 
 -- one refused
 pub forecast-refused : (count size : ℕ) → checkCounts count size ≡ refused 10 0 → forecasting count size ≡ refused 10 0

@@ -23,7 +23,7 @@ use Rattle.codec.specs.Body.{bodyOf}
 use Rattle.codec.specs.Order.{Truncations, none, one}
 use Rattle.codec.specs.Alpha.{alphaText, alphaUnder, alphaOf, alphaTexts, fractionLength, exponentLength, tailLength, textLength}
 use Rattle.codec.specs.Text.{readTexts}
-use Rattle.codec.proofs.ContentsLaws.{Both, then-done}
+use Rattle.decimal.proofs.AnswerLaws.{Both, then-done, then-both}
 use Rattle.codec.proofs.AlphaLaws.{image-length}
 use Rattle.codec.proofs.AlphaForm.{alpha-back}
 use Rattle.codec.proofs.OrderTheorem.{contents-order, contents-equality}
@@ -39,11 +39,6 @@ use Rattle.records.proofs.FieldTheorem.{image-field, image-whole}
 use Rattle.records.proofs.FieldBackTheorem.{field-back}
 
 -- Answers in order.
-
--- two steps that are done
-then-both : {A B : Type 0} {a : Answer A} {x : A} {b : B} (f : A → Answer B) → a ≡ done x → f x ≡ done b → (a then f) ≡ done b
-unfolding _then_
-then-both f p q = ap (λ a. a then f) p ∙ q
 
 -- A line that is one field.
 

@@ -26,7 +26,7 @@ use Rattle.codec.specs.Lists.{storedIn}
 use Rattle.codec.specs.Body.{written}
 use Rattle.codec.specs.Alpha.{alphaText, alphaOf, blankByte, zeroByte}
 use Rattle.codec.proofs.ListLaws.{filled-length}
-use Rattle.codec.proofs.ContentsLaws.{never-done}
+use Rattle.decimal.proofs.AnswerLaws.{never-done}
 use Rattle.codec.proofs.AlphaLaws.{text-length, image-length, alpha-done}
 use Rattle.records.specs.declared.fields.Fill.{Fill}
 use Rattle.records.specs.declared.fields.Element.{Element}

@@ -18,7 +18,8 @@ use Rattle.codec.specs.declared.contents.ContentsAnswer.the-variants as gives
 use Rattle.codec.specs.Lists.{storedIn}
 use Rattle.codec.specs.Contents.{Table, bodySize, readContents, readAlone, contentsOf, imageList}
 use Rattle.codec.specs.Body.{packList, packUnder, packingUnder, within, written, sized}
-use Rattle.codec.proofs.ContentsLaws.{never-done, then-done, contents-sound, TableTold, told-read, told-refused}
+use Rattle.decimal.proofs.AnswerLaws.{never-done, then-done}
+use Rattle.codec.proofs.ContentsLaws.{contents-sound, TableTold, told-read, told-refused}
 use Rattle.codec.proofs.FrontLaws.{contents-within, contents-body, contents-checks}
 use Rattle.codec.proofs.UnderLaws.{told-images, pack-under-checked}
 use Rattle.codec.proofs.BufferLaws.{written-stored}

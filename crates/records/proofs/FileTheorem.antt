@@ -13,7 +13,8 @@ use Rattle.decimal.specs.declared.number.Number.{Number}
 use Rattle.decimal.specs.Answer.{done, refused, pick}
 use Rattle.codec.specs.Contents.{Table, bodySize, readContents, readAlone}
 use Rattle.codec.specs.Body.{packList, within, written}
-use Rattle.codec.proofs.ContentsLaws.{never-done, then-done, contents-sound}
+use Rattle.decimal.proofs.AnswerLaws.{never-done, then-done}
+use Rattle.codec.proofs.ContentsLaws.{contents-sound}
 use Rattle.codec.proofs.FrontLaws.{contents-same}
 use Rattle.codec.proofs.BodyLaws.{packed-length}
 use Rattle.codec.proofs.ReadBackTheorem.{read-back}

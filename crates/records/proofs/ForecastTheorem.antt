@@ -10,6 +10,7 @@ use lib.ListN.{length, take, length-append, length-drop}
 use lib.Seq.{length-take-le}
 use borrow.Author.Tests.{ltb-true}
 use Rattle.decimal.specs.Answer.{Answer, done, refused, _then_, pick}
+use Rattle.decimal.proofs.AnswerLaws.{then-last}
 use Rattle.records.specs.declared.fields.Element.{Element}
 use Rattle.records.specs.Scanning.{Field, IsField, fieldLength}
 use Rattle.records.specs.Fields.{elementBytes}
@@ -97,12 +98,6 @@ some-done line (e ∷ es) h l = go (hasField line) refl h
         → length (literals line) < length line
     go true k h = has-field line k
     go false k h = let z : _≡_ {A = ℕ} 0 1 = cc in absurd (omega arith)
-
--- a step that is done behind one that is done
-pub then-last : {A : Type 0} (r : Answer (Unit {0})) (s : Answer A) {a : A} → (r then λ _. s) ≡ done a → (r ≡ done tt) × (s ≡ done a)
-unfolding _then_
-then-last (done tt) s h = (refl, h)
-then-last (refused number place) s h = let z : _≡_ {A = ℕ} 0 1 = cc in absurd (omega arith)
 
 -- what is printed is at most the forecast
 pub forecast-holds : (line : List ℕ) (es : List Element) (texts : List ℕ) {p : Print} → printed line es texts ≡ done p

@@ -20,7 +20,8 @@ use Rattle.codec.specs.Contents.{Table, maxColumns, bodySize, AllChecked, conte
 use Rattle.codec.specs.Body.{written}
 use Rattle.codec.specs.Unpacking.{unpackBody, unpackUnder, unpackedOf}
 use Rattle.codec.specs.Alpha.{alphaTexts, lineLength}
-use Rattle.codec.proofs.ContentsLaws.{then-done, told-read, told-refused, Sound, contents-sound}
+use Rattle.decimal.proofs.AnswerLaws.{then-done}
+use Rattle.codec.proofs.ContentsLaws.{told-read, told-refused, Sound, contents-sound}
 use Rattle.codec.proofs.ListLaws.{filled-front}
 use Rattle.codec.proofs.UnderLaws.{checked-checks, told-images, unpack-under-checked}
 use Rattle.codec.proofs.LineLaws.{texts-count, texts-length, unpacked-count, unpacked-texts}

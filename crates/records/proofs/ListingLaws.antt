@@ -11,7 +11,7 @@ use Rattle.decimal.specs.Answer.{Answer, done, refused, _then_}
 use Rattle.codec.specs.declared.contents.Contents.{Contents}
 use Rattle.codec.specs.Contents.{Table}
 use Rattle.codec.specs.Body.{within, written}
-use Rattle.codec.proofs.ContentsLaws.{never-done}
+use Rattle.decimal.proofs.AnswerLaws.{never-done}
 use Rattle.records.specs.Writing.{decimalText}
 use Rattle.records.specs.Files.{readFile, recordCount}
 use Rattle.records.specs.Listing.{

@@ -11,7 +11,7 @@ use Rattle.decimal.proofs.DigitLaws.{le-or-lt}
 use Rattle.codec.specs.Contents.{Table, bodySize}
 use Rattle.codec.specs.Body.{within}
 use Rattle.codec.specs.Alpha.{lineLength}
-use Rattle.codec.proofs.ContentsLaws.{then-done}
+use Rattle.decimal.proofs.AnswerLaws.{then-done}
 use Rattle.records.specs.Files.{readFile, recordCount}
 use Rattle.records.specs.Listing.{fileLines, listingOf, listing, maxFile, reportOf, checkedFile, linesOf}
 use Rattle.codec.proofs.LineLaws.{line-bound}

@@ -16,7 +16,7 @@ use Rattle.codec.specs.Lists.{storedIn}
 use Rattle.codec.specs.Contents.{AllChecked, none, more}
 use Rattle.codec.specs.Body.{written, sized, writeMeaning}
 use Rattle.codec.specs.Alpha.{blankByte, alphaUnder, alphaTexts, parted, convertingUnder}
-use Rattle.codec.proofs.ContentsLaws.{never-done}
+use Rattle.decimal.proofs.AnswerLaws.{never-done}
 use Rattle.codec.proofs.LineLaws.{texts-view}
 use Rattle.codec.specs.Walking.{lineEnd}
 use Rattle.records.specs.Listing.{recordLine, given, HasTexts}

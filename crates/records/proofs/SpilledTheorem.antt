@@ -16,7 +16,7 @@ use Rattle.decimal.specs.Number.{normal}
 use Rattle.decimal.specs.Image.{hashes, scannedImage}
 use Rattle.decimal.specs.Truncation.{Truncated, truncation, Fit}
 use Rattle.decimal.proofs.TruncationLaws.{fit-truncation, truncation-fit}
-use Rattle.codec.proofs.ContentsLaws.{then-done, never-done}
+use Rattle.decimal.proofs.AnswerLaws.{never-done, then-done, then-last}
 use Rattle.records.specs.declared.fields.Element.{Element}
 use Rattle.records.specs.declared.fields.Element.the-variants as element
 use Rattle.records.specs.declared.printing.PrintAnswer.the-variants as gives
@@ -30,7 +30,7 @@ use Rattle.records.specs.Spilling.{nextPart, fieldsFilled, isSpilled, sp
 use Rattle.records.proofs.FieldTheorem.{field-image}
 use Rattle.records.proofs.FieldLaws.{number-refused, number-normal}
 use Rattle.records.proofs.CheckLaws.{literals-stop, reached-ready, reached-next}
-use Rattle.records.proofs.ForecastTheorem.{has-field, some-done, then-last}
+use Rattle.records.proofs.ForecastTheorem.{has-field, some-done}
 
 -- One element in its field.
 
