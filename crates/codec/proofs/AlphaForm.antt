@@ -2,10 +2,8 @@
 -- Assumes nothing.
 use Prim.Native.Nat.{ℕ, zero, suc, _+_, _-_, _*_, _/_, _^_, _<_, _≤_}
 use mathlib.Core.Path.{_≡_, refl, ap, sym, subst⁻¹, _∙_}
-use mathlib.Core.Logic.{⊎-elim}
 use mathlib.Core.List.{List, _∷_, _++_, append-nil}
 use mathlib.Core.Bool.{Bool, true, false}
-use native.Mathlib.Nat.{div-lt-iff-lt-mul}
 use native.Mathlib.Omega.{arith}
 use borrow.Author.Tests.{ltb-true, ltb-false, lt-ltb, le-ltb}
 use lib.Dec.{ltb}
@@ -18,17 +16,14 @@ use Rattle.decimal.specs.Answer.{done, pick}
 use Rattle.decimal.specs.Digits.{precision, Digits, digitsOf, valueOf}
 use Rattle.decimal.specs.Number.{exponentLimit, normal}
 use Rattle.decimal.specs.Image.{plusByte, minusByte, hashes, signBytes, times}
-use Rattle.decimal.specs.Truncation.{Truncated, truncation, truncatedTo, storedExponent, wholeOf, isSigned, numberOf, Fit, keptCount, droppedCount}
-use Rattle.decimal.proofs.BoolLaws.{zero-or-not}
-use Rattle.decimal.proofs.PowerLaws.{pow10-pos, pow10-add, pow10-mono}
+use Rattle.decimal.specs.Truncation.{Truncated, truncation, truncatedTo, isSigned, numberOf}
 use Rattle.decimal.proofs.DigitLaws.{digits-length, digits-split, digits-are-digits, value-of-digits}
-use Rattle.decimal.proofs.NumberLaws.{normal-high}
-use Rattle.decimal.proofs.TruncationLaws.{truncation-fit, truncation-done, fit-exponential, stored-zero, stored-exponential, stored-fixed}
-use Rattle.decimal.proofs.KeptLaws.{kept-size, kept-whole, truncates-to-itself}
-use Rattle.codec.specs.Body.{exponentSize}
+use Rattle.decimal.proofs.TruncationLaws.{truncation-fit, truncation-done}
+use Rattle.decimal.proofs.KeptLaws.{truncates-to-itself}
+use Rattle.codec.specs.Packing.{exponentSize}
 use Rattle.codec.specs.Alpha.{blankByte, exponentByte, digitBytes, signText, fractionText, exponentText, alphaText}
-use Rattle.codec.specs.Text.{PointPart, noPoint, point, ExponentPart, noExponent, exponent, TextParts, HasForm}
-use Rattle.codec.specs.Text.{fractionDigits, allDigitsOf, pointBytes, powerBytes, textBytes, PowerLegal, isMinus, powerValue, textValue, convertText}
+use Rattle.codec.specs.Text.{PointPart, noPoint, point, ExponentPart, noExponent, exponent, TextParts, HasForm, fractionDigits, allDigitsOf, pointBytes, powerBytes, numeralBytes, textBytes, PowerLegal, isMinus, powerValue, textValue, convertText}
+use Rattle.codec.proofs.FitLaws.{whole-size, stored-top, fixed-stored}
 use Rattle.codec.proofs.FormLaws.{converts-form}
 
 -- The parts of an alpha text.
@@ -61,9 +56,12 @@ alphaParts im t =
     record {
       before = alphaBlanks (im .sign) (t .negative);
       sign = alphaSign (im .sign) (t .negative);
-      integer = digitsOf (im .integer) (t .whole / 10 ^ im .fraction);
-      fraction = alphaPoint (im .fraction) (t .whole);
-      power = alphaPower (im .exponential) t;
+      numeral =
+          record {
+            integer = digitsOf (im .integer) (t .whole / 10 ^ im .fraction);
+            fraction = alphaPoint (im .fraction) (t .whole);
+            power = alphaPower (im .exponential) t;
+          };
       behind = 0;
     }
 
@@ -104,7 +102,7 @@ fraction-digits zero whole = refl
 fraction-digits (suc f) whole = refl
 
 -- all digits are the image's
-alpha-digits : (im : Image) (t : Truncated) → allDigitsOf (alphaParts im t) ≡ digitsOf (hashes im) (t .whole)
+alpha-digits : (im : Image) (t : Truncated) → allDigitsOf (alphaParts im t .numeral) ≡ digitsOf (hashes im) (t .whole)
 unfolding alphaParts
 alpha-digits im t =
     ap (λ (l : List ℕ). digitsOf (im .integer) (t .whole / 10 ^ im .fraction) ++ l) (fraction-digits (im .fraction) (t .whole))
@@ -120,10 +118,10 @@ power-legal true t =
 
 -- Published: the alpha text under an image of 1 to 13 # signs has the form of a text number.
 pub alpha-form : (im : Image) (t : Truncated) → 0 < hashes im → hashes im ≤ precision → HasForm (alphaText im t) (alphaParts im t)
-unfolding alphaText textBytes alphaParts times
+unfolding alphaText numeralBytes textBytes alphaParts times
 alpha-form im t some few =
     let all = alpha-digits im t in
-    let count : length (allDigitsOf (alphaParts im t)) ≡ hashes im = ap length all ∙ digits-length (hashes im) (t .whole) in
+    let count : length (allDigitsOf (alphaParts im t .numeral)) ≡ hashes im = ap length all ∙ digits-length (hashes im) (t .whole) in
     record {
       legal =
           record {
@@ -133,7 +131,7 @@ alpha-form im t some few =
             powers = power-legal (im .exponential) t;
           };
       written =
-          rw (fraction-text (im .fraction) (t .whole), exponent-text (im .exponential) t, append-nil (powerBytes (alphaPower (im .exponential) t)))
+          rw (fraction-text (im .fraction) (t .whole), exponent-text (im .exponential) t, append-nil)
           (sign-text (im .sign) (t .negative) _);
     }
 
@@ -148,36 +146,6 @@ record Kept (im : Image) (t : Truncated) : Type 0 where
   fixed : im .exponential ≡ false → t .x ≡ exponentLimit
   unsigned : isSigned (im .sign) ≡ false → t .negative ≡ false
 
--- its whole number has no more digits than the image
-whole-below : (im : Image) (n : Number) → Fit im n → wholeOf im n < 10 ^ hashes im
-whole-below im n fit =
-    let size = kept-size im n fit in
-    let dropped = droppedCount im n in
-    let sum : keptCount im n + dropped ≡ precision = omega (arith, fit .size) in
-    let high : n .mantissa < 10 ^ keptCount im n * 10 ^ dropped = omega (arith, normal-high n (fit .number-checked), ap (λ (k : ℕ). 10 ^ k) sum, pow10-add (keptCount im n) dropped) in
-    let low : n .mantissa / 10 ^ dropped < 10 ^ keptCount im n = div-lt-iff-lt-mul (pow10-pos dropped) .1 high in
-    omega (arith, kept-whole im n fit, pow10-mono size)
-
--- its x is within the limits
-stored-top : (im : Image) (n : Number) → Fit im n → storedExponent im n ≤ 2 * exponentLimit
-stored-top im n fit =
-    ⊎-elim
-    (λ (z : n .mantissa ≡ 0). omega (arith, stored-zero im n z))
-    (λ (nz : n .mantissa ≡ 0 → ⊥). go nz (im .exponential) refl)
-    (zero-or-not (n .mantissa))
-  where
-    go : (n .mantissa ≡ 0 → ⊥) → (b : Bool) → im .exponential ≡ b → storedExponent im n ≤ 2 * exponentLimit
-    go nz true kind = omega (arith, stored-exponential im n nz kind, fit-exponential im n fit kind nz .1)
-    go nz false kind = omega (arith, stored-fixed im n nz kind)
-
--- fixed point stores none
-fixed-stored : (im : Image) (n : Number) → im .exponential ≡ false → storedExponent im n ≡ exponentLimit
-fixed-stored im n kind =
-    ⊎-elim
-    (λ (z : n .mantissa ≡ 0). stored-zero im n z)
-    (λ (nz : n .mantissa ≡ 0 → ⊥). stored-fixed im n nz kind)
-    (zero-or-not (n .mantissa))
-
 -- such is each truncation
 truncation-kept : (im : Image) (n : Number) {t : Truncated} → truncation 0 im n ≡ done t → Kept im t
 unfolding truncatedTo
@@ -187,7 +155,7 @@ truncation-kept im n h =
     (record {
       some = fit .nonempty;
       few = fit .size;
-      below = whole-below im n fit;
+      below = whole-size im n fit;
       top = stored-top im n fit;
       fixed = fixed-stored im n;
       unsigned = λ e. rw e;

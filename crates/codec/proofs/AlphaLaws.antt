@@ -1,51 +1,44 @@
--- Laws of alpha texts: their length, their bytes one by one, and when a number has one. Assumes nothing.
+-- Laws of alpha texts: their length, how their parts are written one behind the other, and when a number has one. Assumes nothing.
 use Prim.Native.Nat.{ℕ, zero, suc, _+_, _-_, _*_, _/_, _%_, _^_, _<_, _≤_}
 use mathlib.Core.Path.{_≡_, refl, ap, ap₂, sym, _∙_}
-use mathlib.Core.List.{List, [], _∷_, _++_}
+use mathlib.Core.List.{List, [], _∷_, _++_, append-nil, append-assoc}
 use mathlib.Core.Bool.{Bool, true, false}
-use mathlib.Core.Logic.{⊎-elim}
 use native.Mathlib.Omega.{arith}
-use native.Mathlib.Nat.{zero-add, mod-eq-of-lt, div-one, div-le-self}
+use native.Mathlib.Nat.{mod-eq-of-lt, div-one}
 use native.Mathlib.Numerals.{add-one}
 use lib.Dec.{ltb}
 use lib.ListN.{length, take, drop, getD, set, length-append}
-use lib.Seq.{paste, paste-zero, paste-suc, take-length}
+use lib.Seq.{paste, paste-zero, paste-suc, set-split, append-snoc}
 use borrow.Author.Tests.{lt-ltb, le-ltb}
 use Rattle.decimal.specs.declared.image.Sign.{Sign}
 use Rattle.decimal.specs.declared.image.Sign.the-variants.{Unsigned, Plus, Minus}
 use Rattle.decimal.specs.declared.image.Image.{Image}
 use Rattle.decimal.specs.declared.number.Number.{Number}
 use Rattle.decimal.specs.declared.refusal.Refusal.{Refusal}
-use Rattle.decimal.specs.declared.truncation.FitAnswer.{FitAnswer}
-use Rattle.decimal.specs.declared.truncation.FitAnswer.the-variants as fits
+use Rattle.decimal.specs.declared.refusal.CheckAnswer.{CheckAnswer}
+use Rattle.decimal.specs.declared.refusal.CheckAnswer.the-variants as checks
 use Rattle.decimal.specs.declared.truncation.Truncation.{Truncation}
 use Rattle.decimal.specs.Answer.{Answer, done, refused, _then_, pick}
-use Rattle.decimal.specs.Digits.{precision, digitsOf, valueOf}
+use Rattle.decimal.specs.Digits.{digitsOf, halvesIn}
 use Rattle.decimal.specs.Number.{exponentLimit}
-use Rattle.decimal.specs.Image.{hashByte, plusByte, minusByte, pointByte, signBytes, times, fractionBytes, upBytes, imageBytes, hashes, readImage}
-use Rattle.decimal.specs.Truncation.{Truncated, truncatedTo, truncation, truncationOf, Fit, wholeOf, storedExponent, droppedCount}
-use Rattle.decimal.proofs.BoolLaws.{zero-or-not}
-use Rattle.decimal.proofs.DigitLaws.{digits-length, digits-split, digits-are-digits, digit-below, value-of-digits}
-use Rattle.decimal.proofs.NumberLaws.{normal-high}
-use Rattle.decimal.proofs.ImageLaws.{read-done}
-use Rattle.decimal.proofs.TruncationLaws.{truncation-fit, truncation-done, fit-exponential, stored-zero, stored-fixed, stored-exponential}
-use Rattle.decimal.proofs.KeptLaws.{kept-whole}
+use Rattle.decimal.specs.Image.{hashByte, plusByte, minusByte, pointByte, signBytes, times, fractionBytes, upBytes, imageBytes, readImage}
+use Rattle.decimal.specs.Truncation.{Truncated, truncation, truncationOf}
+use Rattle.decimal.proofs.DigitLaws.{digits-length}
+use Rattle.decimal.proofs.PackedLaws.{halves-length, half-at}
+use Rattle.decimal.proofs.ImageLaws.{times-length, read-done}
+use Rattle.decimal.proofs.TruncationLaws.{truncation-fit, truncation-done}
 use Rattle.decimal.proofs.AnswerLaws.{never, one-answer}
-use Rattle.codec.specs.Lists.{storedIn}
-use Rattle.codec.proofs.ListLaws.{getD-before, getD-behind}
-use Rattle.codec.proofs.BodyLaws.{digit-at}
-use Rattle.codec.specs.Contents.{signCount}
-use Rattle.codec.specs.Body.{exponentSize, within, sized}
-use Rattle.codec.specs.Alpha.{zeroByte, exponentByte, digitBytes, signText, fractionText, exponentText, alphaText, alphaUnder, alphaOf, convertingUnder, converting}
-use Rattle.codec.specs.Body.{heldBy, Held}
-use Rattle.codec.specs.Alpha.{fractionLength, exponentLength, tailText, tailLength, textLength}
-
--- Reading a list in two parts.
+use Rattle.codec.specs.Answers.{storedIn, within, sized, written}
+use Rattle.codec.proofs.FitLaws.{truncation-held, truncation-held-by}
+use Rattle.codec.proofs.BufferLaws.{written-pasted, written-none, written-stored, written-length, written-next}
+use Rattle.codec.specs.Columns.{signCount}
+use Rattle.codec.specs.Packing.{exponentSize, heldBy, Held}
+use Rattle.codec.specs.Alpha.{blankByte, zeroByte, exponentByte, digitBytes, signText, fractionText, exponentText, alphaText, alphaUnder, alphaOf, convertingUnder, converting, zeroAt, fractionLength, exponentLength, tailLength, textLength}
 
 -- Lengths.
 
 -- a byte for each digit
-digit-bytes-length : (ds : List ℕ) → length (digitBytes ds) ≡ length ds
+pub digit-bytes-length : (ds : List ℕ) → length (digitBytes ds) ≡ length ds
 unfolding digitBytes
 digit-bytes-length [] = refl
 digit-bytes-length (d ∷ ds) = ap suc (digit-bytes-length ds)
@@ -79,12 +72,6 @@ unfolding fractionLength
 fraction-few zero = omega arith
 fraction-few (suc f) = omega arith
 
--- at most one byte
-pub sign-few : (s : Sign) → signCount s ≤ 1
-sign-few Unsigned = omega arith
-sign-few Plus = omega arith
-sign-few Minus = omega arith
-
 -- the fraction has its length
 fraction-text-length : (f whole : ℕ) → length (fractionText f whole) ≡ fractionLength f
 unfolding fractionText fractionLength
@@ -103,21 +90,33 @@ unfolding exponentLength
 exponent-few true = omega arith
 exponent-few false = omega arith
 
--- the part behind the digits before the point has its length
+-- what stands behind the digits before the point
+abbrev tailText : Image → Truncated → List ℕ
+tailText im t = fractionText (im .fraction) (t .whole) ++ exponentText (im .exponential) t
+
+-- and its length
 tail-text-length : (im : Image) (t : Truncated) → length (tailText im t) ≡ tailLength im
-unfolding tailText tailLength
+unfolding tailLength
 tail-text-length im t =
     length-append (fractionText (im .fraction) (t .whole)) (exponentText (im .exponential) t)
     ∙ ap₂ _+_ (fraction-text-length (im .fraction) (t .whole)) (exponent-text-length (im .exponential) t)
 
 module _ (im : Image) (t : Truncated) where
   -- the digits before the point
-  abbrev integerText : List ℕ
+  abbrev pub integerText : List ℕ
   integerText = digitBytes (digitsOf (im .integer) (t .whole / 10 ^ im .fraction))
+
+  -- with the sign before them
+  abbrev pub frontText : List ℕ
+  frontText = signText (im .sign) (t .negative) ++ integerText
+
+  -- and with the point and the digits behind it
+  abbrev pub fixedText : List ℕ
+  fixedText = frontText ++ fractionText (im .fraction) (t .whole)
 
   -- a text has the length that the code finds
   pub text-length : length (alphaText im t) ≡ textLength im
-  unfolding alphaText textLength tailText
+  unfolding alphaText textLength
   text-length =
       omega (
         arith,
@@ -127,12 +126,6 @@ module _ (im : Image) (t : Truncated) where
         shown-length (im .integer) (t .whole / 10 ^ im .fraction),
         tail-text-length im t,
       )
-
--- n times a byte are n bytes
-times-length : (n b : ℕ) → length (times n b) ≡ n
-unfolding times
-times-length zero b = refl
-times-length (suc n) b = ap suc (times-length n b)
 
 -- an image's sign has the length of the text's
 sign-bytes-length : (s : Sign) → length (signBytes s) ≡ signCount s
@@ -175,7 +168,7 @@ image-length im =
 read-length : (place : ℕ) (bytes : List ℕ) {im : Image} → readImage place bytes ≡ done im → length bytes ≡ textLength im
 read-length place bytes {im} read = ap length (read-done place bytes im read .0 .rendered) ∙ image-length im
 
--- The bytes of a text, one by one.
+-- Digits as half bytes.
 
 -- the byte of a digit
 digit-byte-at : (ds : List ℕ) (i : ℕ) → i < length ds → getD (digitBytes ds) i 0 ≡ zeroByte + getD ds i 0
@@ -184,139 +177,14 @@ digit-byte-at [] i h = absurd (omega arith)
 digit-byte-at (d ∷ ds) zero h = refl
 digit-byte-at (d ∷ ds) (suc i) h = digit-byte-at ds i (omega arith)
 
-module _ (im : Image) (t : Truncation) (d : ℕ) (held : Held im t) (inside : d < hashes im) where
-  -- the digit that the code reads
-  pub held-digit : getD (t .digits) (precision - hashes im + d) 0 ≡ getD (digitsOf (hashes im) (valueOf (t .digits))) d 0
-  held-digit =
-      ap (λ (l : List ℕ). getD l (precision - hashes im + d) 0) (held .digits)
-      ∙ digit-at precision (hashes im) (valueOf (t .digits)) d (held .size) inside
+-- so many half bytes, so many bytes
+pub half-bytes-length : (n k : ℕ) → length (digitBytes (halvesIn n k)) ≡ n
+half-bytes-length n k = digit-bytes-length (halvesIn n k) ∙ halves-length n k
 
-  -- it is below ten
-  pub held-digit-below : getD (t .digits) (precision - hashes im + d) 0 < 10
-  held-digit-below =
-      let value = valueOf (t .digits) in
-      omega (arith, held-digit, digit-below (digitsOf (hashes im) value) (digits-are-digits (hashes im) value) d)
-
--- a digit before the point
-digit-before : (i f v d : ℕ) → d < i → getD (digitBytes (digitsOf i (v / 10 ^ f))) d 0 ≡ zeroByte + getD (digitsOf (i + f) v) d 0
-digit-before i f v d h =
-    let first = digitsOf i (v / 10 ^ f) in
-    digit-byte-at first d (omega (arith, digits-length i (v / 10 ^ f)))
-    ∙ ap (λ (k : ℕ). zeroByte + k)
-    (sym (ap (λ (l : List ℕ). getD l d 0) (digits-split i f v) ∙ getD-before first (digitsOf f v) i d (digits-length i (v / 10 ^ f)) h))
-
--- a digit behind it
-digit-behind : (i f v d : ℕ) → d < f → getD (digitBytes (digitsOf f v)) d 0 ≡ zeroByte + getD (digitsOf (i + f) v) (i + d) 0
-digit-behind i f v d h =
-    let first = digitsOf i (v / 10 ^ f) in
-    let place : i + d - i ≡ d = omega arith in
-    digit-byte-at (digitsOf f v) d (omega (arith, digits-length f v))
-    ∙ ap (λ (k : ℕ). zeroByte + k)
-    (sym
-    (ap (λ (l : List ℕ). getD l (i + d) 0) (digits-split i f v)
-    ∙ getD-behind first (digitsOf f v) i (i + d) (digits-length i (v / 10 ^ f)) (omega arith)
-    ∙ ap (λ (k : ℕ). getD (digitsOf f v) k 0) place))
-
--- the byte of the sign
-sign-text-at : (s : Sign) (negative : Bool) (j : ℕ) → j < signCount s → getD (signText s negative) j 0 ≡ getD (signText s negative) 0 0
-unfolding signText
-sign-text-at Unsigned negative j h = absurd (omega arith)
-sign-text-at Plus negative zero h = refl
-sign-text-at Plus negative (suc j) h = absurd (omega arith)
-sign-text-at Minus negative zero h = refl
-sign-text-at Minus negative (suc j) h = absurd (omega arith)
-
--- the point comes first
-fraction-point : (f whole j : ℕ) → j < fractionLength f → j ≡ 0 → getD (fractionText f whole) j 0 ≡ pointByte
-unfolding fractionText fractionLength
-fraction-point zero whole j h e = absurd (omega arith)
-fraction-point (suc f) whole zero h e = refl
-fraction-point (suc f) whole (suc j) h e = absurd (omega arith)
-
--- then the digits
-fraction-digit :
-    (i f whole j : ℕ)
-    → j < fractionLength f
-    → (j ≡ 0 → ⊥)
-    → getD (fractionText f whole) j 0 ≡ zeroByte + getD (digitsOf (i + f) whole) (i + (j - 1)) 0
-unfolding fractionText fractionLength
-fraction-digit i zero whole j h e = absurd (omega arith)
-fraction-digit i (suc f) whole zero h e = absurd (e refl)
-fraction-digit i (suc f) whole (suc j) h e =
-    let place : j ≡ suc j - 1 = omega arith in
-    digit-behind i (suc f) whole j (omega arith)
-    ∙ ap (λ (k : ℕ). zeroByte + getD (digitsOf (i + suc f) whole) (i + k) 0) place
-
--- where an exponent has a byte, the image is exponential
-exponent-shown : (e : Bool) (t : Truncated) (j : ℕ) → j < exponentLength e → getD (exponentText e t) j 0 ≡ getD (exponentText true t) j 0
-unfolding exponentLength
-exponent-shown true t j h = refl
-exponent-shown false t j h = absurd (omega arith)
-
--- behind the fraction there are at most four bytes
-pub tail-four : (im : Image) (j : ℕ) → fractionLength (im .fraction) ≤ j → j < tailLength im → j - fractionLength (im .fraction) < 4
-unfolding tailLength
-tail-four im j h l = omega (arith, exponent-few (im .exponential))
-
-module _ (im : Image) (t : Truncated) (j : ℕ) where
-  -- the byte of the sign comes first
-  pub text-sign : j < signCount (im .sign) → getD (alphaText im t) j 0 ≡ getD (signText (im .sign) (t .negative)) 0 0
-  unfolding alphaText tailText
-  text-sign h =
-      getD-before (signText (im .sign) (t .negative)) (integerText im t ++ tailText im t) (signCount (im .sign)) j (sign-text-length (im .sign) (t .negative)) h
-      ∙ sign-text-at (im .sign) (t .negative) j h
-
-  -- what stands behind it
-  behind-sign : signCount (im .sign) ≤ j → getD (alphaText im t) j 0 ≡ getD (integerText im t ++ tailText im t) (j - signCount (im .sign)) 0
-  unfolding alphaText tailText
-  behind-sign h =
-      getD-behind (signText (im .sign) (t .negative)) (integerText im t ++ tailText im t) (signCount (im .sign)) j (sign-text-length (im .sign) (t .negative)) h
-
-  -- then the digits before the point
-  pub text-digit :
-      signCount (im .sign) ≤ j
-      → j - signCount (im .sign) < im .integer
-      → getD (alphaText im t) j 0 ≡ zeroByte + getD (digitsOf (hashes im) (t .whole)) (j - signCount (im .sign)) 0
-  text-digit h l =
-      behind-sign h
-      ∙ getD-before (integerText im t) (tailText im t) (im .integer) (j - signCount (im .sign)) (shown-length (im .integer) (t .whole / 10 ^ im .fraction)) l
-      ∙ digit-before (im .integer) (im .fraction) (t .whole) (j - signCount (im .sign)) l
-
-  -- then the rest
-  pub text-tail :
-      signCount (im .sign) ≤ j
-      → im .integer ≤ j - signCount (im .sign)
-      → getD (alphaText im t) j 0 ≡ getD (tailText im t) (j - signCount (im .sign) - im .integer) 0
-  text-tail h l =
-      behind-sign h
-      ∙ getD-behind (integerText im t) (tailText im t) (im .integer) (j - signCount (im .sign)) (shown-length (im .integer) (t .whole / 10 ^ im .fraction)) l
-
-  -- of which the point comes first
-  pub tail-point : j < fractionLength (im .fraction) → j ≡ 0 → getD (tailText im t) j 0 ≡ pointByte
-  unfolding tailText
-  tail-point h e =
-      getD-before (fractionText (im .fraction) (t .whole)) (exponentText (im .exponential) t) (fractionLength (im .fraction)) j (fraction-text-length (im .fraction) (t .whole)) h
-      ∙ fraction-point (im .fraction) (t .whole) j h e
-
-  -- then the digits behind it
-  pub tail-digit :
-      j < fractionLength (im .fraction)
-      → (j ≡ 0 → ⊥)
-      → getD (tailText im t) j 0 ≡ zeroByte + getD (digitsOf (hashes im) (t .whole)) (im .integer + (j - 1)) 0
-  unfolding tailText
-  tail-digit h e =
-      getD-before (fractionText (im .fraction) (t .whole)) (exponentText (im .exponential) t) (fractionLength (im .fraction)) j (fraction-text-length (im .fraction) (t .whole)) h
-      ∙ fraction-digit (im .integer) (im .fraction) (t .whole) j h e
-
-  -- then the exponent
-  pub tail-exponent :
-      fractionLength (im .fraction) ≤ j
-      → j < tailLength im
-      → getD (tailText im t) j 0 ≡ getD (exponentText true t) (j - fractionLength (im .fraction)) 0
-  unfolding tailText tailLength
-  tail-exponent h l =
-      getD-behind (fractionText (im .fraction) (t .whole)) (exponentText (im .exponential) t) (fractionLength (im .fraction)) j (fraction-text-length (im .fraction) (t .whole)) h
-      ∙ exponent-shown (im .exponential) t (j - fractionLength (im .fraction)) (omega arith)
+-- one of them
+pub half-byte-at : (n k i : ℕ) → i < n → getD (digitBytes (halvesIn n k)) i 0 ≡ zeroByte + k / 2 ^ (4 * (n - 1 - i)) % 2 ^ 4
+half-byte-at n k i h =
+    digit-byte-at (halvesIn n k) i (omega (arith, halves-length n k)) ∙ ap (λ (d : ℕ). zeroByte + d) (half-at n k i h)
 
 -- the first byte of a negative number's text
 pub sign-minus : (s : Sign) {negative : Bool} → 0 < signCount s → negative ≡ true → minusByte ≡ getD (signText s negative) 0 0
@@ -325,61 +193,189 @@ sign-minus Unsigned h e = absurd (omega arith)
 sign-minus Plus h e = rw e
 sign-minus Minus h e = rw e
 
--- The exponent's four bytes.
-
-module _ (t : Truncated) (j : ℕ) where
-  -- E
-  pub exponent-letter : j ≡ 0 → getD (exponentText true t) j 0 ≡ exponentByte
-  unfolding exponentText
-  exponent-letter e = ap (λ (k : ℕ). getD (exponentText true t) k 0) e
-
-  -- the sign of x
-  pub exponent-sign : j ≡ 1 → getD (exponentText true t) j 0 ≡ pick (ltb (t .x) exponentLimit) minusByte plusByte
-  unfolding exponentText
-  exponent-sign e = ap (λ (k : ℕ). getD (exponentText true t) k 0) e
-
-  -- the first digit of |x|
-  pub exponent-tens : exponentSize t ≤ exponentLimit → j ≡ 2 → getD (exponentText true t) j 0 ≡ zeroByte + exponentSize t / 10
-  unfolding exponentText digitBytes digitsOf
-  exponent-tens h e = ap (λ (k : ℕ). getD (exponentText true t) k 0) e ∙ ap (λ (k : ℕ). zeroByte + k) (mod-eq-of-lt (omega arith))
-
-  -- the last
-  pub exponent-ones : j ≡ 3 → getD (exponentText true t) j 0 ≡ zeroByte + exponentSize t % 10
-  unfolding exponentText digitBytes digitsOf
-  exponent-ones e = ap (λ (k : ℕ). getD (exponentText true t) k 0) e ∙ ap (λ (k : ℕ). zeroByte + k % 10) (div-one (exponentSize t))
-
 -- Writing a text into a buffer.
 
--- the bytes of a text that are written so far, before the buffer's others
-unfoldable pub writtenTo : List ℕ → List ℕ → ℕ → List ℕ
-writtenTo text buffer j = paste buffer 0 text j
+-- the bytes that are written so far from a place on, before the buffer's others
+unfoldable pub writtenTo : List ℕ → ℕ → List ℕ → ℕ → List ℕ
+writtenTo buffer start bytes j = paste buffer start bytes j
 
--- before the first byte
-pub written-starts : (text buffer : List ℕ) → buffer ≡ writtenTo text buffer 0
-unfolding writtenTo
-written-starts text buffer = paste-zero buffer 0 text
+module _ (bytes buffer : List ℕ) (start : ℕ) where
+  -- before the first byte
+  pub written-starts : buffer ≡ writtenTo buffer start bytes 0
+  unfolding writtenTo
+  written-starts = paste-zero buffer start bytes
 
--- one byte more
-pub written-turns :
-    (text buffer now : List ℕ) (j b : ℕ)
-    → now ≡ writtenTo text buffer j
-    → j < length text
-    → length text ≤ length buffer
-    → b ≡ getD text j 0
-    → set now j b ≡ writtenTo text buffer (j + 1)
-unfolding writtenTo
-written-turns text buffer now j b e inside room byte =
-    (λ i. set (e i) (sym (zero-add j) i) (byte i))
-    ∙ paste-suc buffer 0 text j 0 (omega arith) inside
-    ∙ ap (paste buffer 0 text) (sym (add-one j))
+  -- one byte more
+  pub written-turns :
+      (after : List ℕ) (j b : ℕ)
+      → after ≡ writtenTo buffer start bytes j
+      → j < length bytes
+      → start + length bytes ≤ length buffer
+      → b ≡ getD bytes j 0
+      → set after (start + j) b ≡ writtenTo buffer start bytes (j + 1)
+  unfolding writtenTo
+  written-turns after j b e inside room byte =
+      (λ i. set (e i) (start + j) (byte i))
+      ∙ paste-suc buffer start bytes j 0 (omega arith) inside
+      ∙ ap (paste buffer start bytes) (sym (add-one j))
 
--- behind the last byte
-pub written-ends : (text buffer now : List ℕ) (j : ℕ) → now ≡ writtenTo text buffer j → j ≡ length text → now ≡ storedIn (done text) buffer
-unfolding writtenTo storedIn
-written-ends text buffer now j e full =
-    e
-    ∙ (λ i. take (full i) text ++ drop ((zero-add j ∙ full) i) buffer)
-    ∙ ap (λ (l : List ℕ). l ++ drop (length text) buffer) (take-length text)
+  -- behind the last byte
+  pub written-ends : (after : List ℕ) (j : ℕ) → after ≡ writtenTo buffer start bytes j → j ≡ length bytes → after ≡ written buffer start bytes
+  unfolding writtenTo
+  written-ends after j e full = e ∙ written-pasted buffer start bytes j full
+
+-- one byte
+byte-written : (b : List ℕ) (start v : ℕ) → start < length b → set b start v ≡ written b start (v ∷ [])
+unfolding written
+byte-written b start v h =
+    let behind : suc start ≡ start + 1 = omega arith in
+    set-split b start v h
+    ∙ sym (append-snoc (take start b) v (drop (suc start) b))
+    ∙ ap (λ (k : ℕ). (take start b ++ (v ∷ [])) ++ drop k b) behind
+
+-- one byte behind others
+byte-behind :
+    (b : List ℕ) (start : ℕ) (s : List ℕ) (v : ℕ)
+    → start + length s < length b
+    → set (written b start s) (start + length s) v ≡ written b start (s ++ (v ∷ []))
+byte-behind b start s v h =
+    byte-written (written b start s) (start + length s) v (omega (arith, written-length b start s (omega arith)))
+    ∙ written-next b start s (v ∷ []) (omega arith)
+
+-- bytes behind others
+pub written-behind :
+    (b : List ℕ) (start : ℕ) (s t : List ℕ) {w : List ℕ} {place : ℕ}
+    → w ≡ written b start s
+    → place ≡ start + length s
+    → start + length s + length t ≤ length b
+    → written w place t ≡ written b start (s ++ t)
+written-behind b start s t e p h = (λ i. written (e i) (p i) t) ∙ written-next b start s t h
+
+-- four bytes
+pub four-written :
+    (b : List ℕ) (start p q r v : ℕ)
+    → start + 4 ≤ length b
+    → set (set (set (set b start p) (start + 1) q) (start + 2) r) (start + 3) v ≡ written b start (p ∷ (q ∷ (r ∷ (v ∷ []))))
+four-written b start p q r v h =
+    ap (λ (w : List ℕ). set (set (set w (start + 1) q) (start + 2) r) (start + 3) v) (byte-written b start p (omega arith))
+    ∙ ap (λ (w : List ℕ). set (set w (start + 2) r) (start + 3) v) (byte-behind b start (p ∷ []) q (omega arith))
+    ∙ ap (λ (w : List ℕ). set w (start + 3) v) (byte-behind b start (p ∷ (q ∷ [])) r (omega arith))
+    ∙ byte-behind b start (p ∷ (q ∷ (r ∷ []))) v (omega arith)
+
+-- The parts of a text.
+
+-- the sign
+pub sign-written :
+    (s : Sign) (negative : Bool) (b : List ℕ) {v : ℕ}
+    → (signCount s ≡ 0 → ⊥)
+    → 0 < length b
+    → v ≡ getD (signText s negative) 0 0
+    → set b 0 v ≡ written b 0 (signText s negative)
+unfolding signText
+sign-written Unsigned negative b some room e = absurd (some refl)
+sign-written Plus negative b some room e = ap (set b 0) e ∙ byte-written b 0 (pick negative minusByte plusByte) room
+sign-written Minus negative b some room e = ap (set b 0) e ∙ byte-written b 0 (pick negative minusByte blankByte) room
+
+-- no sign
+pub sign-unwritten : (s : Sign) (negative : Bool) (b : List ℕ) → signCount s ≡ 0 → b ≡ written b 0 (signText s negative)
+unfolding signText
+sign-unwritten Unsigned negative b none = sym (written-none b)
+sign-unwritten Plus negative b none = absurd (omega arith)
+sign-unwritten Minus negative b none = absurd (omega arith)
+
+-- no fraction
+pub fraction-unwritten : (b : List ℕ) (start f whole : ℕ) → f ≡ 0 → b ≡ written b start (fractionText f whole)
+unfolding fractionText written
+fraction-unwritten b start zero whole none = paste-zero b start []
+fraction-unwritten b start (suc f) whole none = absurd (omega arith)
+
+-- the point and the digits behind it
+pub fraction-written :
+    (b : List ℕ) (start f whole : ℕ) {w : List ℕ} {ds : List ℕ}
+    → (f ≡ 0 → ⊥)
+    → start + fractionLength f ≤ length b
+    → ds ≡ digitsOf f whole
+    → w ≡ written (set b start pointByte) (start + 1) (digitBytes ds)
+    → w ≡ written b start (fractionText f whole)
+unfolding fractionText fractionLength
+fraction-written b start zero whole some room e h = absurd (some refl)
+fraction-written b start (suc f) whole {w} {ds} some room e h =
+    h
+    ∙ ap (λ (l : List ℕ). written (set b start pointByte) (start + 1) (digitBytes l)) e
+    ∙ written-behind b start (pointByte ∷ []) (digitBytes (digitsOf (suc f) whole)) (byte-written b start pointByte (omega arith)) refl
+    (omega (arith, shown-length (suc f) whole))
+
+-- the exponent's four bytes
+pub exponent-shown :
+    (x : ℕ) {size sign tens ones : ℕ}
+    → size ≡ pick (ltb x exponentLimit) (exponentLimit - x) (x - exponentLimit)
+    → size ≤ exponentLimit
+    → sign ≡ pick (ltb x exponentLimit) minusByte plusByte
+    → tens ≡ zeroByte + size / 10
+    → ones ≡ zeroByte + size % 10
+    → (exponentByte ∷ (sign ∷ (tens ∷ (ones ∷ [])))) ≡ exponentText true (zeroAt x)
+unfolding exponentText digitBytes digitsOf exponentSize
+exponent-shown x {size} {sign} {tens} {ones} e small signed first last =
+    let few : size / 10 < 10 = omega arith in
+    let tens# = first ∙ ap (λ (k : ℕ). zeroByte + k) (sym (mod-eq-of-lt few)) ∙ ap (λ (k : ℕ). zeroByte + k / 10 % 10) e in
+    let ones# = last ∙ ap (λ (k : ℕ). zeroByte + k % 10) (sym (div-one size) ∙ ap (λ (k : ℕ). k / 1) e) in
+    λ i. exponentByte ∷ (signed i ∷ (tens# i ∷ (ones# i ∷ [])))
+
+module _ (im : Image) (t : Truncated) (b : List ℕ) (room : textLength im ≤ length b) where
+  -- their lengths
+  front-length : length (frontText im t) ≡ signCount (im .sign) + im .integer
+  front-length =
+      length-append (signText (im .sign) (t .negative)) (integerText im t)
+      ∙ ap₂ _+_ (sign-text-length (im .sign) (t .negative)) (shown-length (im .integer) (t .whole / 10 ^ im .fraction))
+
+  fixed-length : length (fixedText im t) ≡ signCount (im .sign) + im .integer + fractionLength (im .fraction)
+  fixed-length =
+      length-append (frontText im t) (fractionText (im .fraction) (t .whole))
+      ∙ ap₂ _+_ front-length (fraction-text-length (im .fraction) (t .whole))
+
+  -- the digits before the point are written behind the sign
+  pub integer-step :
+      {w ds : List ℕ} {place : ℕ}
+      → w ≡ written b 0 (signText (im .sign) (t .negative))
+      → place ≡ signCount (im .sign)
+      → ds ≡ digitsOf (im .integer) (t .whole / 10 ^ im .fraction)
+      → written w place (digitBytes ds) ≡ written b 0 (frontText im t)
+  unfolding textLength tailLength
+  integer-step {w} {ds} {place} e p d =
+      let signs = sign-text-length (im .sign) (t .negative) in
+      ap (λ (l : List ℕ). written w place (digitBytes l)) d
+      ∙ written-behind b 0 (signText (im .sign) (t .negative)) (integerText im t) e (omega arith)
+      (omega (arith, shown-length (im .integer) (t .whole / 10 ^ im .fraction)))
+
+  -- the fraction behind them
+  pub fraction-step :
+      {w : List ℕ} {place : ℕ}
+      → w ≡ written b 0 (frontText im t)
+      → place ≡ signCount (im .sign) + im .integer
+      → written w place (fractionText (im .fraction) (t .whole)) ≡ written b 0 (fixedText im t)
+  unfolding textLength tailLength
+  fraction-step e p =
+      written-behind b 0 (frontText im t) (fractionText (im .fraction) (t .whole)) e (omega (arith, front-length))
+      (omega (arith, front-length, fraction-text-length (im .fraction) (t .whole)))
+
+  -- these are the whole text in fixed point
+  pub fixed-end : {w : List ℕ} → im .exponential ≡ false → w ≡ written b 0 (fixedText im t) → w ≡ storedIn (done (alphaText im t)) b
+  unfolding alphaText exponentText
+  fixed-end kind e = e ∙ written-stored b (fixedText im t) ∙ rw kind (simp (append-assoc, append-nil))
+
+  -- else the exponent is written behind them
+  pub exponent-end :
+      {w : List ℕ} {place : ℕ}
+      → im .exponential ≡ true
+      → w ≡ written b 0 (fixedText im t)
+      → place ≡ signCount (im .sign) + im .integer + fractionLength (im .fraction)
+      → written w place (exponentText true (zeroAt (t .x))) ≡ storedIn (done (alphaText im t)) b
+  unfolding alphaText exponentText exponentSize textLength tailLength
+  exponent-end kind e p =
+      written-behind b 0 (fixedText im t) (exponentText true t) e (omega (arith, fixed-length))
+      (omega (arith, fixed-length, exponent-text-length true t, ap exponentLength kind))
+      ∙ written-stored b (fixedText im t ++ exponentText true t)
+      ∙ rw kind (simp append-assoc)
 
 -- What a call that writes answers, and the buffer behind it.
 
@@ -409,43 +405,8 @@ pub record Found (im : Image) (n : Number) (r : Truncation) : Type 0 where
   pub same : heldBy r ≡ to
   pub isHeld : Held im r
 
--- the stored exponent is within its limits
-stored-range : (im : Image) (n : Number) → Fit im n → storedExponent im n ≤ 2 * exponentLimit
-stored-range im n fit = ⊎-elim (λ z. omega (arith, stored-zero im n z)) (λ nz. go nz (im .exponential) refl) (zero-or-not (n .mantissa))
-  where
-    go : (n .mantissa ≡ 0 → ⊥) → (b : Bool) → im .exponential ≡ b → storedExponent im n ≤ 2 * exponentLimit
-    go nz true kind = omega (arith, stored-exponential im n nz kind, fit-exponential im n fit kind nz .1)
-    go nz false kind = omega (arith, stored-fixed im n nz kind)
-
--- the digits that the code holds are enough for the image's
-whole-below : (im : Image) (n : Number) → Fit im n → wholeOf im n < 10 ^ precision
-whole-below im n fit =
-    omega (arith, kept-whole im n fit, div-le-self (n .mantissa) (10 ^ droppedCount im n), normal-high n (fit .number-checked))
-
--- a truncation that the code holds is the number's
-held-done : (im : Image) (n : Number) (r : Truncation) (t : Truncated) → r ≡ truncationOf (done t) → truncation 0 im n ≡ done t → Found im n r
-unfolding truncationOf truncatedTo
-held-done im n r t e h =
-    let fit = truncation-fit 0 im n h in
-    let is = truncation-done 0 im n h in
-    let small : t .whole < 10 ^ precision = omega (arith, ap (λ (s : Truncated). s .whole) is, whole-below im n fit) in
-    let digits : r .digits ≡ digitsOf precision (t .whole) = ap (λ (s : Truncation). s .digits) e in
-    let value : valueOf (r .digits) ≡ t .whole = ap valueOf digits ∙ value-of-digits precision (t .whole) small in
-    let exponent : r .x ≡ t .x = ap (λ (s : Truncation). s .x) e in
-    record {
-      to = t;
-      truncated = h;
-      same = λ i. record { negative = e i .negative; whole = value i; x = exponent i };
-      isHeld =
-          record {
-            size = fit .size;
-            digits = digits ∙ ap (digitsOf precision) (sym value);
-            range = omega (arith, exponent, ap (λ (s : Truncated). s .x) is, stored-range im n fit);
-          };
-    }
-
 -- a refusal is no truncation
-held-never : (im : Image) (n : Number) (r : Truncation) (number place : ℕ) → r ≡ truncationOf (refused number place) → r .answer ≡ fits.Fits → Found im n r
+held-never : (im : Image) (n : Number) (r : Truncation) (number place : ℕ) → r ≡ truncationOf (refused number place) → r .answer ≡ checks.Fine → Found im n r
 unfolding truncationOf
 held-never im n r number place e a =
     let other = sym (ap (λ (s : Truncation). s .answer) e) ∙ a in
@@ -453,18 +414,25 @@ held-never im n r number place e a =
     absurd (omega arith)
 
 -- a number that is not refused is held
-pub truncation-found : (im : Image) (n : Number) (r : Truncation) → r ≡ truncationOf (truncation 0 im n) → r .answer ≡ fits.Fits → Found im n r
+pub truncation-found : (im : Image) (n : Number) (r : Truncation) → r ≡ truncationOf (truncation 0 im n) → r .answer ≡ checks.Fine → Found im n r
 truncation-found im n r e a = go (truncation 0 im n) refl
   where
     go : (t : Answer Truncated) → truncation 0 im n ≡ t → Found im n r
-    go (done t) h = held-done im n r t (e ∙ ap truncationOf h) h
+    go (done t) h =
+        let fit = truncation-fit 0 im n h in
+        record {
+          to = t;
+          truncated = h;
+          same = truncation-held-by im n fit r e ∙ sym (truncation-done 0 im n h);
+          isHeld = truncation-held im n fit r e;
+        }
     go (refused number place) h = held-never im n r number place (e ∙ ap truncationOf h) a
 
 -- a refusal is the answer's
 held-answer :
     (a : Answer Truncated) (r : Truncation) (refusal : Refusal)
     → r ≡ truncationOf a
-    → r .answer ≡ fits.Refused refusal
+    → r .answer ≡ checks.Refused refusal
     → a ≡ refused (refusal .number) (refusal .place)
 unfolding truncationOf
 held-answer (done t) r refusal e a =
@@ -472,17 +440,17 @@ held-answer (done t) r refusal e a =
     let z : _≡_ {A = ℕ} 0 1 = cc in
     absurd (omega arith)
 held-answer (refused number place) r refusal e a =
-    ap (λ (f : FitAnswer). refusalOf f) (sym (ap (λ (s : Truncation). s .answer) e) ∙ a)
+    ap (λ (f : CheckAnswer). refusalOf f) (sym (ap (λ (s : Truncation). s .answer) e) ∙ a)
   where
-    refusalOf : FitAnswer → Answer Truncated
-    refusalOf fits.Fits = refused 0 0
-    refusalOf (fits.Refused q) = refused (q .number) (q .place)
+    refusalOf : CheckAnswer → Answer Truncated
+    refusalOf checks.Fine = refused 0 0
+    refusalOf (checks.Refused q) = refused (q .number) (q .place)
 
 -- a number that is refused is refused as the code says
 pub truncation-refused :
     (im : Image) (n : Number) (r : Truncation) (refusal : Refusal)
     → r ≡ truncationOf (truncation 0 im n)
-    → r .answer ≡ fits.Refused refusal
+    → r .answer ≡ checks.Refused refusal
     → truncation 0 im n ≡ refused (refusal .number) (refusal .place)
 truncation-refused im n r refusal e a = held-answer (truncation 0 im n) r refusal e a
 

@@ -1,14 +1,14 @@
 -- Laws of a buffer that bytes are written into. Assumes nothing.
-use Prim.Native.Nat.{ℕ, _+_, _≤_}
+use Prim.Native.Nat.{ℕ, _+_, _<_, _≤_}
 use mathlib.Core.Path.{_≡_, refl, ap, ap₂, sym, _∙_}
-use mathlib.Core.List.{List, [], _++_, append-assoc}
+use mathlib.Core.List.{List, [], _∷_, _++_, append-assoc}
 use native.Mathlib.Omega.{arith}
 use native.Mathlib.Nat.{zero-add}
-use lib.ListN.{length, take, drop, length-append, length-drop}
-use lib.Seq.{paste, take-at, drop-drop, drop-append-add, length-take-le, take-length}
+use native.Mathlib.Numerals.{add-one}
+use lib.ListN.{length, take, drop, set, length-append, length-drop}
+use lib.Seq.{paste, take-at, drop-drop, drop-append-add, length-take-le, take-length, set-split}
 use Rattle.decimal.specs.Answer.{Answer, done, refused}
-use Rattle.codec.specs.Lists.{storedIn}
-use Rattle.codec.specs.Body.{sized, written}
+use Rattle.codec.specs.Answers.{storedIn, sized, written}
 
 -- bytes copied one by one
 pub written-pasted : (b : List ℕ) (start : ℕ) (s : List ℕ) (n : ℕ) → n ≡ length s → paste b start s n ≡ written b start s
@@ -32,6 +32,14 @@ stored-size (done bytes) b {after} {size} told same =
     let long : size ≡ length bytes = cc in
     omega (arith, ap length same, length-append bytes (drop (length bytes) b))
 stored-size (refused number place) b {after} {size} told same = let z : _≡_ {A = ℕ} 0 1 = cc in absurd (omega arith)
+
+-- one byte stored
+set-written : (l : List ℕ) (i x : ℕ) → i < length l → set l i x ≡ written l i (x ∷ [])
+unfolding written
+set-written l i x h =
+    set-split l i x h
+    ∙ ap (λ (k : ℕ). take i l ++ x ∷ drop k l) (sym (add-one i))
+    ∙ sym (append-assoc (take i l) (x ∷ []) (drop (i + 1) l))
 
 module _ (b : List ℕ) (start : ℕ) (s : List ℕ) where
   -- what stands up to the end of the bytes
@@ -62,3 +70,15 @@ module _ (b : List ℕ) (start : ℕ) (s : List ℕ) where
       let ends : m + length t ≡ start + length (s ++ t) = omega (arith, length-append s t) in
       ap₂ (λ (x y : List ℕ). x ++ t ++ y) (take-at front (drop m b) m long) (tail ∙ ap (λ (k : ℕ). drop k b) ends)
       ∙ ap (λ (x : List ℕ). x ++ drop (start + length (s ++ t)) b) (append-assoc (take start b) s t)
+
+  -- one byte behind what was written
+  pub written-one :
+      (x n : ℕ)
+      → length s ≡ n
+      → start + n < length b
+      → set (written b start s) (start + n) x ≡ written b start (s ++ x ∷ [])
+  written-one x n e room =
+      let kept : length (written b start s) ≡ length b = written-length (omega arith) in
+      set-written (written b start s) (start + n) x (omega arith)
+      ∙ ap (λ (k : ℕ). written (written b start s) (start + k) (x ∷ [])) (sym e)
+      ∙ written-next (x ∷ []) (omega arith)

@@ -6,7 +6,7 @@ use mathlib.Core.Bool.{Bool, true, false, not, _&&_}
 use mathlib.Core.List.{List, [], _∷_, _++_}
 use mathlib.Core.Logic.{_⊎_, inl, inr, ⊎-elim}
 use native.Mathlib.Omega.{arith}
-use native.Mathlib.Nat.{add-comm, mul-le-mul-right, mul-lt-mul-of-pos-right, lt-of-lt-of-le, le-div-iff-mul-le, div-lt-iff-lt-mul, mul-div-cancel}
+use native.Mathlib.Nat.{add-comm, mul-le-mul-right, mul-lt-mul-of-pos-right, lt-of-lt-of-le, le-div-iff-mul-le, mul-div-cancel}
 use lib.Dec.{ltb, leb, eqb}
 use lib.ListN.{length, take, drop, getD, take-append-drop, length-drop}
 use lib.Seq.{take-at, drop-at, drop-drop, length-take-le}
@@ -16,24 +16,26 @@ use Rattle.decimal.specs.declared.image.Sign.the-variants.{Unsigned, Plus, Minu
 use Rattle.decimal.specs.declared.image.Image.{Image}
 use Rattle.decimal.specs.declared.number.Number.{Number}
 use Rattle.decimal.specs.Answer.{Answer, done, refused, _then_, pick}
-use Rattle.decimal.specs.Digits.{precision, digitsOf, valueOf, zeros, leadingZeros, Digits}
+use Rattle.decimal.specs.Digits.{precision, digitsOf, valueOf, zeros, leadingZeros, Digits, Halves}
 use Rattle.decimal.specs.Number.{exponentLimit, zeroNumber, shiftedNumber, scaledNumber}
 use Rattle.decimal.specs.Image.{hashes}
 use Rattle.decimal.specs.Truncation.{isSigned, wholeOf, exceeds, exponentOutside, storedExponent, Truncated, truncatedTo, truncation, packedTruncation, numberOf, truncatedNumber, Fit, keptCount, droppedCount, keptNumber}
 use Rattle.decimal.proofs.BoolLaws.{and-true, zero-or-not}
 use Rattle.decimal.proofs.PowerLaws.{pow10-pos, pow10-add, pow10-suc, pow10-mono}
 use Rattle.decimal.proofs.DigitLaws.{le-or-lt, leading-unique, leading-low, leading-top, leading-more, leading-at-most, digits-length, digits-are-digits, value-of-digits, value-below, digits-of-value}
-use Rattle.decimal.proofs.NumberLaws.{InRange, normal-range, normal-high, range-normal, zero-normal, scaled-zero, scaled-shifted, shifted-below, shifted-above, shifted-done}
-use Rattle.decimal.proofs.TruncationLaws.{truncation-fit, fit-truncation, packed-refused, packed-signed, packed-negative, packed-unsigned, exceeds-zero, exceeds-range, outside-zero, outside-above, fit-exponential, stored-zero, stored-exponential, stored-fixed, kept-exponential, kept-fixed}
-use Rattle.decimal.proofs.KeptLaws.{whole-zero, kept-size, kept-whole, kept-none, number-none, number-some}
+use Rattle.decimal.proofs.NumberLaws.{InRange, normal-range, range-normal, zero-normal, scaled-zero, scaled-shifted, shifted-below, shifted-above, shifted-done}
+use Rattle.decimal.proofs.TruncationLaws.{truncation-fit, fit-truncation, packed-refused, packed-signed, packed-negative, packed-unsigned, exceeds-zero, exceeds-range, outside-zero, outside-above, stored-zero, stored-exponential, stored-fixed, kept-exponential, kept-fixed}
+use Rattle.decimal.proofs.KeptLaws.{whole-zero, kept-whole, kept-none, number-none, number-some}
 use Rattle.decimal.proofs.AnswerLaws.{never-done, never, one-answer}
 use Rattle.codec.specs.Lists.{anyOf}
-use Rattle.codec.specs.Contents.{Checked, signCount, exponentCount, halfCount, padCount, columnSize}
-use Rattle.codec.specs.Body.{exponentSize, signHalf, signHalves, exponentHalves, columnHalves, packHalves, columnBytes}
+use Rattle.codec.specs.Columns.{Checked, signCount, exponentCount, halfCount, padCount, columnSize}
+use Rattle.codec.specs.Halves.{packHalves, halvesOf}
+use Rattle.codec.specs.Packing.{exponentSize, signHalf, signHalves, exponentHalves, columnHalves, columnBytes}
 use Rattle.codec.specs.Order.{Bytes}
-use Rattle.codec.specs.Unpacking.{halvesOf, allDigits, allZero, signPart, digitPart, exponentPart, padPart, minusBit, belowBit, saidBy, breaksRules, asHalf, partsNumber, halvesNumber, unpackColumn}
+use Rattle.codec.specs.Unpacking.{allDigits, allZero, signPart, digitPart, exponentPart, padPart, minusBit, belowBit, saidBy, breaksRules, asHalf, partsNumber, halvesNumber, unpackColumn}
 use Rattle.codec.proofs.ContentsLaws.{column-halves}
-use Rattle.codec.proofs.HalfLaws.{Halves, packHalves-length, halves-of-packed, packed-of-halves, halves-length, bytes-halves, column-halves-below, sign-halves-length, exponent-halves-length, column-halves-length}
+use Rattle.codec.proofs.FitLaws.{whole-size, stored-top, fixed-stored}
+use Rattle.codec.proofs.HalfLaws.{halves-of-packed, packed-of-halves, halves-length, bytes-halves, column-halves-below, sign-halves-length, exponent-halves-length, column-even}
 
 -- Answers and tests.
 
@@ -124,12 +126,6 @@ packed-back place im n {t} p = go (isSigned (im .sign)) refl ∙ ap {B = Answer 
 
 -- The bounds of what is packed.
 
--- m without all but its first c digits has at most h digits
-cut-below : (m p c h : ℕ) → m < 10 ^ p → c ≤ h → h ≤ p → m / 10 ^ (p - c) < 10 ^ h
-cut-below m p c h high some few =
-    div-lt-iff-lt-mul (pow10-pos (p - c)) .1
-    (rw (← pow10-add h (p - c)) (lt-of-lt-of-le high (pow10-mono (omega arith))))
-
 -- the first h digits of m do not begin with 0
 cut-first : (m p h : ℕ) → 10 ^ p ≤ m → 0 < h → h ≤ suc p → 10 ^ h ≤ m / 10 ^ (suc p - h) * 10
 cut-first m p zero low some few = absurd (omega arith)
@@ -149,31 +145,12 @@ pub record Kept (im : Image) (t : Truncated) : Type 0 where
   pub unsigned-x : isSigned (im .sign) ≡ false → exponentLimit ≤ t .x
 
 module _ (im : Image) (n : Number) (fit : Fit im n) where
-  -- k has at most n digits
-  whole-size : wholeOf im n < 10 ^ hashes im
-  whole-size =
-      rw (kept-whole im n fit)
-      (cut-below (n .mantissa) precision (keptCount im n) (hashes im) (normal-high n (fit .number-checked)) (kept-size im n fit) (fit .size))
-
-  -- x is at most its upper limit
-  stored-top : storedExponent im n ≤ 2 * exponentLimit
-  stored-top = ⊎-elim (λ z. omega (arith, stored-zero im n z)) (λ nz. go nz (im .exponential) refl) (zero-or-not (n .mantissa))
-    where
-      go : (n .mantissa ≡ 0 → ⊥) → (b : Bool) → im .exponential ≡ b → storedExponent im n ≤ 2 * exponentLimit
-      go nz true kind = omega (arith, stored-exponential im n nz kind, fit-exponential im n fit kind nz)
-      go nz false kind = omega (arith, stored-fixed im n nz kind)
-
   -- a minus stands only on a k above 0 and under an image with a sign
   sign-kept : (isSigned (im .sign) && (n .negative && not (eqb (wholeOf im n) 0))) ≡ true → (0 < wholeOf im n) × (isSigned (im .sign) ≡ true)
   sign-kept h =
       let parts = and-true (isSigned (im .sign)) (n .negative && not (eqb (wholeOf im n) 0)) h in
       let rest = and-true (n .negative) (not (eqb (wholeOf im n) 0)) (parts .1) in
       (⊎-elim (λ z. two-values (rest .1) (ap not (eq-eqb (wholeOf im n) 0 z))) (λ nz. omega arith) (zero-or-not (wholeOf im n)), parts .0)
-
-  -- fixed point has x = 0
-  stored-fixed-any : im .exponential ≡ false → storedExponent im n ≡ exponentLimit
-  stored-fixed-any kind =
-      ⊎-elim (λ z. stored-zero im n z) (λ nz. stored-fixed im n nz kind) (zero-or-not (n .mantissa))
 
   -- a k of 0 has x = 0
   none-stored : wholeOf im n ≡ 0 → storedExponent im n ≡ exponentLimit
@@ -198,11 +175,11 @@ module _ (im : Image) (n : Number) (fit : Fit im n) where
   unfolding truncatedTo
   fit-kept room =
       record {
-        size = whole-size;
-        top = stored-top;
+        size = whole-size im n fit;
+        top = stored-top im n fit;
         minus = sign-kept;
         zero-x = none-stored;
-        fixed-x = stored-fixed-any;
+        fixed-x = fixed-stored im n;
         first = first-kept;
         unsigned-x = room;
       }
@@ -437,19 +414,10 @@ module _ (im : Image) (t : Truncated) where
       part-last signs places exponents pads (signCount (im .sign)) (hashes im) (exponentCount (im .exponential))
       (sign-halves-length (im .sign) t) (digits-length (hashes im) (t .whole)) (exponent-halves-length (im .exponential) t)
 
-  -- a column's halves are twice its bytes
-  column-even : length (columnHalves im t) ≡ columnSize im + columnSize im
-  column-even = column-halves-length im t ∙ sym (column-halves im)
-
-  -- a column has its size
-  pub column-bytes-length : length (columnBytes im t) ≡ columnSize im
-  unfolding columnBytes
-  column-bytes-length = packHalves-length (columnHalves im t) (columnSize im) column-even
-
   -- its bytes have its halves
   column-bytes-halves : halvesOf (columnBytes im t) ≡ columnHalves im t
   unfolding columnBytes
-  column-bytes-halves = halves-of-packed (columnHalves im t) (columnSize im) column-even (column-halves-below im t)
+  column-bytes-halves = halves-of-packed (columnHalves im t) (columnSize im) (column-even im t) (column-halves-below im t)
 
   module _ (kept : Kept im t) where
     -- the sign half of a column's halves
@@ -922,16 +890,17 @@ module _ (im : Image) (sign whole size : ℕ) (rules : Rules im sign whole size)
 -- Bytes of a column's size.
 
 -- the first half is below 16
-first-half : {hs : List ℕ} → Halves hs → getD hs 0 0 < 16
-first-half Halves.none = omega arith
-first-half (Halves.more p g) = p
+first-half : (hs : List ℕ) → Halves hs → getD hs 0 0 < 16
+unfolding Halves
+first-half [] g = omega arith
+first-half (h ∷ hs) g = g .0
 
 -- so is the sign half
-sign-part-low : (s : Sign) {hs : List ℕ} → Halves hs → signPart s hs < 16
+sign-part-low : (s : Sign) (hs : List ℕ) → Halves hs → signPart s hs < 16
 unfolding signPart
-sign-part-low Unsigned g = omega arith
-sign-part-low Plus g = first-half g
-sign-part-low Minus g = first-half g
+sign-part-low Unsigned hs g = omega arith
+sign-part-low Plus hs g = first-half hs g
+sign-part-low Minus hs g = first-half hs g
 
 -- there is none under an unsigned image
 sign-part-none : (s : Sign) (hs : List ℕ) → isSigned s ≡ false → signPart s hs ≡ 0
@@ -1051,7 +1020,7 @@ module _ (im : Image) (hs : List ℕ) (filled : length hs ≡ halfCount im + pad
     signs-again : Halves hs → signHalves (im .sign) said ≡ take (signCount (im .sign)) hs
     signs-again half =
         sign-halves-again (im .sign) said hs (omega arith)
-        (λ s. said-sign im sign whole size in-rules in-few (sign-part-low (im .sign) half))
+        (λ s. said-sign im sign whole size in-rules in-few (sign-part-low (im .sign) hs half))
 
     -- its digits of |x| are those that were read
     exponents-again : exponentHalves (im .exponential) said ≡ exponentPart im hs

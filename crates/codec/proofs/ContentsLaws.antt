@@ -20,33 +20,11 @@ use Rattle.decimal.proofs.BoolLaws.{and-true}
 use Rattle.decimal.proofs.ImageLaws.{read-done}
 use Rattle.decimal.proofs.AnswerLaws.{never-done, then-done}
 use Rattle.codec.specs.declared.contents.Contents.{Contents}
-use Rattle.codec.specs.declared.contents.ContentsAnswer.the-variants as gives
-use Rattle.codec.specs.Lists.{filled}
+use Rattle.decimal.specs.declared.refusal.CheckAnswer.the-variants as checks
+use Rattle.codec.specs.Lists.{filled, maxColumns, noImage}
 use Rattle.codec.proofs.ListLaws.{filled-set}
-use Rattle.codec.specs.Contents.{
-  maxColumns,
-  signCount,
-  exponentCount,
-  halfCount,
-  padCount,
-  columnSize,
-  bodySize,
-  Checked,
-  AllChecked,
-  none,
-  more,
-  Table,
-  readColumn,
-  Column,
-  columnAt,
-  columnLength,
-  readColumns,
-  columnsLength,
-  readContents,
-  readAlone,
-  contentsOf,
-  noImage,
-}
+use Rattle.codec.specs.Columns.{signCount, exponentCount, halfCount, padCount, columnSize, bodySize, Checked, AllChecked, none, more}
+use Rattle.codec.specs.Contents.{Table, readColumn, Column, columnAt, columnLength, readColumns, columnsLength, readContents, readAlone, contentsOf}
 
 -- the image of each column is one of 1 to 13 # signs
 pub checked-at : {ims : List Image} → AllChecked ims → (i : ℕ) → i < length ims → Checked (getD ims i noImage)
@@ -175,37 +153,37 @@ alone-count bytes h = let s = alone-sound bytes h in (s .low, s .high)
 pub record TableTold (a : Answer Table) (r : Contents) : Type 0 where
   pub table : Table
   pub reads : a ≡ done table
-  pub images : r .images ≡ filled maxColumns noImage (table .images)
-  pub count : r .count ≡ length (table .images)
+  pub images : r .images .values ≡ filled maxColumns noImage (table .images)
+  pub count : r .images .count ≡ length (table .images)
   pub size : r .size ≡ table .size
   pub body : r .body ≡ bodySize (table .images)
 
 -- the code's answer tells the contents that was read
-pub told-read : (a : Answer Table) (r : Contents) → r ≡ contentsOf a → r .answer ≡ gives.Read → TableTold a r
+pub told-read : (a : Answer Table) (r : Contents) → r ≡ contentsOf a → r .answer ≡ checks.Fine → TableTold a r
 unfolding contentsOf
 told-read (done t) r h e =
     record {
       table = t;
       reads = refl;
-      images = ap (λ (x : Contents). x .images) h;
-      count = ap (λ (x : Contents). x .count) h;
+      images = ap (λ (x : Contents). x .images .values) h;
+      count = ap (λ (x : Contents). x .images .count) h;
       size = ap (λ (x : Contents). x .size) h;
       body = ap (λ (x : Contents). x .body) h;
     }
 told-read (refused x y) r h e =
-    let wrong : gives.Read ≡ contentsOf (refused x y) .answer = sym e ∙ ap (λ (k : Contents). k .answer) h in
+    let wrong : checks.Fine ≡ contentsOf (refused x y) .answer = sym e ∙ ap (λ (k : Contents). k .answer) h in
     let z : _≡_ {A = ℕ} 0 1 = cc in
     absurd (omega arith)
 
 -- and the refusal
-pub told-refused : (a : Answer Table) (r : Contents) (refusal : Refusal) → r ≡ contentsOf a → r .answer ≡ gives.Refused refusal → a ≡ refused (refusal .number) (refusal .place)
+pub told-refused : (a : Answer Table) (r : Contents) (refusal : Refusal) → r ≡ contentsOf a → r .answer ≡ checks.Refused refusal → a ≡ refused (refusal .number) (refusal .place)
 unfolding contentsOf
 told-refused (done t) r refusal h e =
-    let wrong : gives.Refused refusal ≡ contentsOf (done t) .answer = sym e ∙ ap (λ (k : Contents). k .answer) h in
+    let wrong : checks.Refused refusal ≡ contentsOf (done t) .answer = sym e ∙ ap (λ (k : Contents). k .answer) h in
     let z : _≡_ {A = ℕ} 0 1 = cc in
     absurd (omega arith)
 told-refused (refused x y) r refusal h e =
-    let same : gives.Refused refusal ≡ gives.Refused (record { number = x; place = y }) = sym e ∙ ap (λ (k : Contents). k .answer) h in
+    let same : checks.Refused refusal ≡ checks.Refused (record { number = x; place = y }) = sym e ∙ ap (λ (k : Contents). k .answer) h in
     let told : refusal ≡ record { number = x; place = y } = cc in
     ap (λ (k : Refusal). refused (k .number) (k .place)) (sym told)
 
@@ -213,11 +191,11 @@ told-refused (refused x y) r refusal h e =
 pub record ReadOk (bytes : List ℕ) (r : Contents) : Type 0 where
   pub table : Table
   pub reads : readAlone bytes ≡ done table
-  pub images : r .images ≡ filled maxColumns noImage (table .images)
-  pub count : r .count ≡ length (table .images)
+  pub images : r .images .values ≡ filled maxColumns noImage (table .images)
+  pub count : r .images .count ≡ length (table .images)
   pub body : r .body ≡ bodySize (table .images)
 
-pub alone-read : (bytes : List ℕ) (r : Contents) → r ≡ contentsOf (readAlone bytes) → r .answer ≡ gives.Read → ReadOk bytes r
+pub alone-read : (bytes : List ℕ) (r : Contents) → r ≡ contentsOf (readAlone bytes) → r .answer ≡ checks.Fine → ReadOk bytes r
 alone-read bytes r h e =
     let t = told-read (readAlone bytes) r h e in
     record { table = t .table; reads = t .reads; images = t .images; count = t .count; body = t .body }
@@ -226,7 +204,7 @@ alone-read bytes r h e =
 pub alone-refused :
     (bytes : List ℕ) (r : Contents) (refusal : Refusal)
     → r ≡ contentsOf (readAlone bytes)
-    → r .answer ≡ gives.Refused refusal
+    → r .answer ≡ checks.Refused refusal
     → readAlone bytes ≡ refused (refusal .number) (refusal .place)
 alone-refused bytes r refusal h e = told-refused (readAlone bytes) r refusal h e
 
@@ -248,19 +226,19 @@ module _ (bytes : List ℕ) where
 
   module _ (r : Contents) (h : r ≡ contentsOf (readContents bytes)) where
     -- so the code's answer is the same alone where it is refused
-    pub alone-stops : (refusal : Refusal) → r .answer ≡ gives.Refused refusal → r ≡ contentsOf (readAlone bytes)
+    pub alone-stops : (refusal : Refusal) → r .answer ≡ checks.Refused refusal → r ≡ contentsOf (readAlone bytes)
     alone-stops refusal e =
         let q = told-refused (readContents bytes) r refusal h e in
         h ∙ ap contentsOf (q ∙ sym (alone-first q))
 
     -- and where it fills the bytes
-    pub alone-whole : r .answer ≡ gives.Read → r .size ≡ length bytes → r ≡ contentsOf (readAlone bytes)
+    pub alone-whole : r .answer ≡ checks.Fine → r .size ≡ length bytes → r ≡ contentsOf (readAlone bytes)
     alone-whole e l =
         let t = told-read (readContents bytes) r h e in
         h ∙ ap contentsOf (t .reads ∙ sym (alone-same (t .reads) (sym (t .size) ∙ l)))
 
     -- else it is refused
-    pub alone-long : r .answer ≡ gives.Read → (r .size ≡ length bytes → ⊥) → readAlone bytes ≡ refused 11 0
+    pub alone-long : r .answer ≡ checks.Fine → (r .size ≡ length bytes → ⊥) → readAlone bytes ≡ refused 11 0
     alone-long e l = let t = told-read (readContents bytes) r h e in alone-more (t .reads) (λ z. l (t .size ∙ z))
 
 -- a column's halves fill its bytes
@@ -527,12 +505,12 @@ pub contents-made :
     → getD bytes 0 0 ≤ maxColumns
     → Reading bytes (getD bytes 0 0) images place body column
     → getD bytes 0 0 ≤ column
-    → _≡_ {A = Contents} (record { answer = gives.Read; images = images; count = getD bytes 0 0; size = place; body = body }) (contentsOf (readContents bytes))
+    → _≡_ {A = Contents} (record { answer = checks.Fine; images = record { values = images; count = getD bytes 0 0 }; size = place; body = body }) (contentsOf (readContents bytes))
 unfolding contentsOf
 contents-made bytes {images} {place} {body} {column} some low high r h =
     let all = getD bytes 0 0 in
     let columns : all ≡ length (r .ims) = omega (arith, r .as-many, r .inside) in
     let table : Table = record { images = r .ims; size = suc (columnsLength all (drop 1 bytes)) } in
-    let made : _≡_ {A = Contents} (record { answer = gives.Read; images = images; count = all; size = place; body = body }) (contentsOf (done table)) =
-    λ i. record { answer = gives.Read; images = r .stored i; count = columns i; size = reading-length r h i; body = r .size i } in
+    let made : _≡_ {A = Contents} (record { answer = checks.Fine; images = record { values = images; count = all }; size = place; body = body }) (contentsOf (done table)) =
+    λ i. record { answer = checks.Fine; images = record { values = r .stored i; count = columns i }; size = reading-length r h i; body = r .size i } in
     made ∙ sym (ap contentsOf (contents-read bytes some low high (reading-ends r h)))

@@ -14,22 +14,9 @@ use Rattle.decimal.specs.Answer.{Answer, done, refused, _then_, pick}
 use Rattle.decimal.specs.Image.{readImage}
 use Rattle.decimal.proofs.BoolLaws.{and-true}
 use Rattle.decimal.proofs.ImageLaws.{read-done}
-use Rattle.codec.specs.Contents.{
-  maxColumns,
-  bodySize,
-  AllChecked,
-  none,
-  more,
-  Table,
-  readColumn,
-  columnLength,
-  readColumns,
-  columnsLength,
-  readContents,
-  readAlone,
-  checkEach,
-  checkImages,
-}
+use Rattle.codec.specs.Lists.{maxColumns}
+use Rattle.codec.specs.Columns.{bodySize, AllChecked, none, more}
+use Rattle.codec.specs.Contents.{Table, readColumn, columnLength, readColumns, columnsLength, readContents, readAlone, checkEach, checkImages}
 use Rattle.codec.specs.Alpha.{textLength, lineLength}
 use Rattle.codec.proofs.UnderLaws.{checked-checks}
 use Rattle.decimal.proofs.AnswerLaws.{never-done, then-done}

@@ -1,6 +1,6 @@
 -- Laws of half bytes: packing and halving are inverse, a column's halves are below 16 and have its length, and packed bytes come in the
 -- order of their halves. Assumes nothing.
-use Prim.Native.Nat.{ℕ, zero, suc, _+_, _*_, _/_, _%_, _<_, _≤_}
+use Prim.Native.Nat.{ℕ, zero, suc, _+_, _-_, _*_, _^_, _<_, _≤_}
 use mathlib.Core.Path.{_≡_, refl, ap, ap₂, sym, _∙_}
 use mathlib.Core.Bool.{Bool, true, false}
 use mathlib.Core.Logic.{⊎-elim}
@@ -15,37 +15,17 @@ use Rattle.decimal.specs.declared.image.Sign.{Sign}
 use Rattle.decimal.specs.declared.image.Sign.the-variants.{Unsigned, Plus, Minus}
 use Rattle.decimal.specs.declared.image.Image.{Image}
 use Rattle.decimal.specs.Answer.{pick}
-use Rattle.decimal.specs.Digits.{digitsOf, zeros, Digits, comesBefore}
+use Rattle.decimal.specs.Digits.{digitsOf, zeros, Halves, comesBefore}
 use Rattle.decimal.specs.Number.{exponentLimit}
 use Rattle.decimal.specs.Image.{hashes}
 use Rattle.decimal.specs.Truncation.{Truncated}
-use Rattle.decimal.proofs.DigitLaws.{le-or-lt, digits-length, digits-are-digits, zeros-length}
-use Rattle.codec.specs.Contents.{signCount, exponentCount, halfCount, padCount}
-use Rattle.codec.specs.Body.{exponentSize, signHalf, signHalves, exponentHalves, columnHalves, packHalves}
-use Rattle.codec.specs.Unpacking.{halvesOf}
+use Rattle.decimal.proofs.DigitLaws.{le-or-lt, digits-length, zeros-length}
+use Rattle.decimal.proofs.PackedLaws.{zeros-halves, halves-append, digit-halves}
+use Rattle.codec.specs.Columns.{signCount, exponentCount, halfCount, padCount, columnSize}
+use Rattle.codec.specs.Halves.{packHalves, halvesOf}
+use Rattle.codec.specs.Packing.{exponentSize, signHalf, signHalves, exponentHalves, columnHalves, columnBytes}
 use Rattle.codec.specs.Order.{Bytes}
-
--- each element is a half byte
-pub data Halves : List ℕ → Type 0 where
-  none : Halves []
-  more : {h : ℕ} {hs : List ℕ} → h < 16 → Halves hs → Halves (h ∷ hs)
-
--- halves put behind halves are halves
-pub halves-append : {xs ys : List ℕ} → Halves xs → Halves ys → Halves (xs ++ ys)
-halves-append none g = g
-halves-append (more p h) g = more p (halves-append h g)
-
--- digits are halves
-pub digits-halves : (ds : List ℕ) → Digits ds → Halves ds
-unfolding Digits
-digits-halves [] h = none
-digits-halves (d ∷ ds) h = let below : d < 16 = omega (arith, h .0) in more below (digits-halves ds (h .1))
-
--- zeros are halves
-pub zeros-halves : (n : ℕ) → Halves (zeros n)
-unfolding zeros
-zeros-halves zero = none
-zeros-halves (suc n) = more {h = 0} (omega arith) (zeros-halves n)
+use Rattle.codec.proofs.ContentsLaws.{column-halves}
 
 -- Packing.
 
@@ -73,13 +53,13 @@ packed-same-length (x ∷ (l ∷ xs)) (y ∷ (m ∷ ys)) e = ap suc (packed-same
 
 -- the halves of what halves are packed to are those halves
 pub halves-of-packed : (hs : List ℕ) (k : ℕ) → length hs ≡ k + k → Halves hs → halvesOf (packHalves hs) ≡ hs
-unfolding packHalves halvesOf
+unfolding packHalves halvesOf Halves
 halves-of-packed [] k e b = refl
 halves-of-packed (h ∷ []) zero e b = absurd (omega arith)
 halves-of-packed (h ∷ []) (suc k) e b = absurd (omega arith)
 halves-of-packed (h ∷ (l ∷ hs)) zero e b = absurd (omega arith)
-halves-of-packed (h ∷ (l ∷ hs)) (suc k) e (more p (more q b)) =
-    rw (digits-div h q, digits-mod h q, halves-of-packed hs k (omega arith) b)
+halves-of-packed (h ∷ (l ∷ hs)) (suc k) e b =
+    rw (digits-div h (b .1 .0), digits-mod h (b .1 .0), halves-of-packed hs k (omega arith) (b .1 .1))
 
 -- bytes are what their halves are packed to
 pub packed-of-halves : (bs : List ℕ) → packHalves (halvesOf bs) ≡ bs
@@ -95,52 +75,52 @@ halves-length (b ∷ bs) = omega (arith, halves-length bs)
 
 -- the halves of bytes are halves
 pub bytes-halves : {bs : List ℕ} → Bytes bs → Halves (halvesOf bs)
-unfolding halvesOf
-bytes-halves Bytes.none = none
+unfolding halvesOf Halves
+bytes-halves Bytes.none = tt
 bytes-halves (Bytes.more {b} p h) =
-    more {h = b / 16} (div-lt-iff-lt-mul {k = 16} {x = b} {y = 16} (omega arith) .1 (omega arith)) (more {h = b % 16} (mod-lt b (omega arith)) (bytes-halves h))
+    (div-lt-iff-lt-mul {k = 16} {x = b} {y = 16} (omega arith) .1 (omega arith), (mod-lt b {m = 16} (omega arith), bytes-halves h))
 
 -- halves are packed to bytes
-pub packed-bytes : {hs : List ℕ} → Halves hs → Bytes (packHalves hs)
-unfolding packHalves
-packed-bytes none = Bytes.none
-packed-bytes (more {h} p none) = Bytes.more {b = h * 16} (omega arith) Bytes.none
-packed-bytes (more {h} p (more {h = l} q g)) = Bytes.more {b = h * 16 + l} (omega arith) (packed-bytes g)
+pub packed-bytes : (hs : List ℕ) → Halves hs → Bytes (packHalves hs)
+unfolding packHalves Halves
+packed-bytes [] g = Bytes.none
+packed-bytes (h ∷ []) g = Bytes.more {b = h * 16} (omega (arith, g .0)) Bytes.none
+packed-bytes (h ∷ (l ∷ hs)) g = Bytes.more {b = h * 16 + l} (omega (arith, g .0, g .1 .0)) (packed-bytes hs (g .1 .1))
 
 -- A column's halves.
 
 -- a sign half is at most 1 and 8
-sign-below : (negative below : Bool) → pick negative 1 0 + pick below 8 0 < 16
+sign-below : (negative below : Bool) → pick negative 1 0 + pick below 8 0 < 2 ^ 4
 sign-below true true = omega arith
 sign-below true false = omega arith
 sign-below false true = omega arith
 sign-below false false = omega arith
 
 -- the sign half is a half
-sign-half-below : (t : Truncated) → signHalf t < 16
+pub sign-half-below : (t : Truncated) → signHalf t < 2 ^ 4
 unfolding signHalf
 sign-half-below t = sign-below (t .negative) (ltb (t .x) exponentLimit)
 
 -- the sign part is halves
-sign-halves-below : (s : Sign) (t : Truncated) → Halves (signHalves s t)
-unfolding signHalves
-sign-halves-below Unsigned t = none
-sign-halves-below Plus t = more (sign-half-below t) none
-sign-halves-below Minus t = more (sign-half-below t) none
+pub sign-halves-below : (s : Sign) (t : Truncated) → Halves (signHalves s t)
+unfolding signHalves Halves
+sign-halves-below Unsigned t = tt
+sign-halves-below Plus t = (sign-half-below t, tt)
+sign-halves-below Minus t = (sign-half-below t, tt)
 
 -- the exponent part is halves
 exponent-halves-below : (b : Bool) (t : Truncated) → Halves (exponentHalves b t)
-unfolding exponentHalves
-exponent-halves-below true t = digits-halves (digitsOf 2 (exponentSize t)) (digits-are-digits 2 (exponentSize t))
-exponent-halves-below false t = none
+unfolding exponentHalves Halves
+exponent-halves-below true t = digit-halves 2 (exponentSize t)
+exponent-halves-below false t = tt
 
 -- each of a column's halves is below 16
 pub column-halves-below : (im : Image) (t : Truncated) → Halves (columnHalves im t)
 unfolding columnHalves
 column-halves-below im t =
-    halves-append (sign-halves-below (im .sign) t)
-    (halves-append (digits-halves (digitsOf (hashes im) (t .whole)) (digits-are-digits (hashes im) (t .whole)))
-    (halves-append (exponent-halves-below (im .exponential) t) (zeros-halves (padCount im))))
+    halves-append _ _ (sign-halves-below (im .sign) t)
+    (halves-append _ _ (digit-halves (hashes im) (t .whole))
+    (halves-append _ _ (exponent-halves-below (im .exponential) t) (zeros-halves (padCount im))))
 
 -- the length of the sign part
 pub sign-halves-length : (s : Sign) (t : Truncated) → length (signHalves s t) ≡ signCount s
@@ -173,6 +153,27 @@ column-halves-length im t =
       exponent-halves-length (im .exponential) t,
       zeros-length (padCount im),
     )
+
+-- which is twice the count of its bytes
+pub column-even : (im : Image) (t : Truncated) → length (columnHalves im t) ≡ columnSize im + columnSize im
+column-even im t = column-halves-length im t ∙ sym (column-halves im)
+
+-- a column has as many bytes as its size says
+pub column-length : (im : Image) (t : Truncated) → length (columnBytes im t) ≡ columnSize im
+unfolding columnBytes
+column-length im t = packHalves-length (columnHalves im t) (columnSize im) (column-even im t)
+
+-- |x| is within its limit
+pub exponent-size-few : (x : ℕ) → x ≤ 2 * exponentLimit → pick (ltb x exponentLimit) (exponentLimit - x) (x - exponentLimit) ≤ exponentLimit
+exponent-size-few x h = go (ltb x exponentLimit)
+  where
+    go : (b : Bool) → pick b (exponentLimit - x) (x - exponentLimit) ≤ exponentLimit
+    go true = omega arith
+    go false = omega arith
+
+pub exponent-small : (t : Truncated) → t .x ≤ 2 * exponentLimit → exponentSize t ≤ exponentLimit
+unfolding exponentSize
+exponent-small t = exponent-size-few (t .x)
 
 -- Order.
 
@@ -209,16 +210,17 @@ byte-order h l i m b p q = high (eqb h i) refl
 
 -- packed bytes come in the order of their halves
 pub packed-order :
-    {xs ys : List ℕ} → Halves xs → Halves ys → length xs ≡ length ys → comesBefore (packHalves xs) (packHalves ys) ≡ comesBefore xs ys
-unfolding comesBefore packHalves
-packed-order none none e = refl
-packed-order none (more p g) e = absurd (omega arith)
-packed-order (more p h) none e = absurd (omega arith)
-packed-order (more {h = a} p none) (more {h = c} q none) e =
+    (xs ys : List ℕ) → Halves xs → Halves ys → length xs ≡ length ys → comesBefore (packHalves xs) (packHalves ys) ≡ comesBefore xs ys
+unfolding comesBefore packHalves Halves
+packed-order [] [] h g e = refl
+packed-order [] (c ∷ ys) h g e = absurd (omega arith)
+packed-order (a ∷ []) [] h g e = absurd (omega arith)
+packed-order (a ∷ []) (c ∷ []) h g e =
     ap₂ (λ (x y : ℕ). pick (eqb x y) false (ltb x y)) (sym (add-zero (a * 16))) (sym (add-zero (c * 16)))
     ∙ byte-order a 0 c 0 false (omega arith) (omega arith)
-packed-order (more p none) (more q (more r g)) e = absurd (omega arith)
-packed-order (more p (more s h)) (more q none) e = absurd (omega arith)
-packed-order (more {h = a} p (more {h = l} {hs = xs} s h)) (more {h = c} q (more {h = m} {hs = ys} r g)) e =
-    byte-order a l c m (comesBefore (packHalves xs) (packHalves ys)) s r
-    ∙ ap (λ (b : Bool). pick (eqb a c) (pick (eqb l m) b (ltb l m)) (ltb a c)) (packed-order h g (suc-inj (suc-inj e)))
+packed-order (a ∷ []) (c ∷ (m ∷ ys)) h g e = absurd (omega arith)
+packed-order (a ∷ (l ∷ xs)) [] h g e = absurd (omega arith)
+packed-order (a ∷ (l ∷ xs)) (c ∷ []) h g e = absurd (omega arith)
+packed-order (a ∷ (l ∷ xs)) (c ∷ (m ∷ ys)) h g e =
+    byte-order a l c m (comesBefore (packHalves xs) (packHalves ys)) (h .1 .0) (g .1 .0)
+    ∙ ap (λ (b : Bool). pick (eqb a c) (pick (eqb l m) b (ltb l m)) (ltb a c)) (packed-order xs ys (h .1 .1) (g .1 .1) (suc-inj (suc-inj e)))

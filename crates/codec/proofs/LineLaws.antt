@@ -14,13 +14,14 @@ use Rattle.decimal.specs.Image.{hashes, imageBytes}
 use Rattle.decimal.specs.Truncation.{truncatedTo}
 use Rattle.decimal.proofs.ImageLaws.{reads-image}
 use Rattle.decimal.proofs.TruncationLaws.{fit-truncation}
-use Rattle.codec.specs.Contents.{Checked, AllChecked, signCount, exponentCount, columnSize, bodySize}
+use Rattle.codec.specs.Columns.{Checked, AllChecked, signCount, exponentCount, columnSize, bodySize}
 use Rattle.codec.specs.Unpacking.{unpackColumns, unpackBody}
 use Rattle.codec.specs.Alpha.{blankByte, alphaText, alphaUnder, alphaOf, alphaTexts, parted, fractionLength, exponentLength, tailLength, textLength, lineLength}
 use Rattle.decimal.proofs.AnswerLaws.{then-done}
 use Rattle.codec.proofs.ColumnTheorem.{column-packs}
 use Rattle.codec.proofs.ReadBackTheorem.{body-view, unpack-view}
-use Rattle.codec.proofs.AlphaLaws.{under-done, alpha-under-length, alpha-read, fraction-few, sign-few}
+use Rattle.codec.proofs.AlphaLaws.{under-done, alpha-under-length, alpha-read, fraction-few}
+use Rattle.codec.proofs.ContentsLaws.{sign-few}
 
 -- One text.
 

@@ -6,19 +6,23 @@ use mathlib.Core.Logic.{_⊎_, inl, inr, ⊎-elim}
 use mathlib.Core.List.{List, [], _++_, append-nil}
 use native.Mathlib.Omega.{arith}
 use lib.ListN.{length, take, drop, length-append, take-append-drop}
-use lib.Seq.{length-take-le, drop-at, drop-append-seam}
+use lib.Seq.{length-take-le, drop-at, drop-append-seam, drop-drop}
 use Rattle.decimal.specs.declared.image.Sign.{Sign}
+use Rattle.decimal.specs.Answer.{refused}
 use Rattle.decimal.specs.Digits.{precision, Digits}
 use Rattle.decimal.specs.Image.{signBytes, times}
 use Rattle.decimal.proofs.BoolLaws.{zero-or-not}
+use Rattle.decimal.proofs.ImageLaws.{times-length}
 use Rattle.codec.specs.Alpha.{blankByte, digitBytes}
-use Rattle.codec.specs.Text.{PointPart, noPoint, point, ExponentPart, noExponent, exponent, TextParts, Legal, HasForm, LongestForm}
-use Rattle.codec.specs.Text.{fractionDigits, allDigitsOf, pointBytes, powerBytes, textBytes, PowerLegal}
-use Rattle.codec.specs.Text.{blanksIn, digitsIn, signIn, signLength, pointIn, powerIn, partsIn, legalLength}
-use Rattle.codec.proofs.PartLaws.{digit-bytes-length, times-length, digits-left, digits-right, blanks-go, digits-go, point-go, power-go}
-use Rattle.codec.proofs.PartLaws.{Stops, stops-blanks, stops-power, starts-body, sign-go, sign-no-blank, power-blanks}
+use Rattle.codec.specs.Text.{PointPart, noPoint, point, ExponentPart, noExponent, exponent, NumeralParts, TextParts, Legal, HasForm, LongestForm}
+use Rattle.codec.specs.Text.{fractionDigits, allDigitsOf, pointBytes, powerBytes, numeralBytes, textBytes, PowerLegal}
+use Rattle.codec.specs.Text.{blanksIn, digitsIn, signIn, signLength, pointIn, powerIn, numeralIn, partsIn, TextReading, noReading, readingIn, legalLength, convertText}
+use Rattle.codec.proofs.AlphaLaws.{digit-bytes-length}
+use Rattle.codec.proofs.PartLaws.{digits-left, digits-right, blanks-go, digits-go, point-go, power-go}
+use Rattle.codec.proofs.PartLaws.{Stops, stops-blanks, stops-power, sign-go, sign-no-blank, power-blanks}
 use Rattle.codec.proofs.PartLaws.{point-no-digit, point-exact, power-exact}
-use Rattle.codec.proofs.FormLaws.{text-append, text-length, text-front, length-some, length-none, form-of-parts, point-bytes-long}
+use Rattle.codec.proofs.FormLaws.{numeral-append, text-append, starts-numeral, text-front, form-of-parts, converts-form}
+use Rattle.codec.proofs.TextLaws.{numeral-length, text-length, point-long, legal-none, legal-some, reading-empty, reading-number, convert-whole}
 
 -- How many bytes are read from each part on.
 
@@ -42,13 +46,37 @@ digitsTail ds bs =
 unfoldable digitsCount : List ℕ → List ℕ → ℕ
 digitsCount ds bs = length ds + length (fractionDigits (pointIn (precision - length ds) (drop (length ds) bs)))
 
+-- a numeral and the blanks behind it
+unfoldable numeralTail : List ℕ → ℕ
+numeralTail bs = length (numeralBytes (numeralIn bs)) + blanksIn (drop (length (numeralBytes (numeralIn bs))) bs)
+
+-- it is that of the numeral's parts
+numeral-tail : (bs : List ℕ) → numeralTail bs ≡ digitsTail (digitsIn precision bs) bs
+unfolding numeralTail numeralIn powerTail pointTail digitsTail
+numeral-tail bs =
+    let u = numeralIn bs in
+    let i = length (u .integer) in
+    let f = length (pointBytes (u .fraction)) in
+    let p = length (powerBytes (u .power)) in
+    let size : length (numeralBytes u) ≡ i + f + p = omega (arith, numeral-length u) in
+    let left : drop (length (numeralBytes u)) bs ≡ drop p (drop f (drop i bs)) =
+    ap (λ (n : ℕ). drop n bs) size
+    ∙ sym (drop-drop p (i + f) bs)
+    ∙ ap (λ (l : List ℕ). drop p l) (sym (drop-drop f i bs)) in
+    omega (arith, size, ap blanksIn left)
+
+-- and how many digits it has
+numeral-count : (bs : List ℕ) → length (allDigitsOf (numeralIn bs)) ≡ digitsCount (digitsIn precision bs) bs
+unfolding numeralIn digitsCount
+numeral-count bs = length-append (numeralIn bs .integer) (fractionDigits (numeralIn bs .fraction))
+
 -- a sign and what is behind it
 unfoldable signTail : Sign → List ℕ → ℕ
-signTail sign bs = let digits : List ℕ = drop (signLength sign) bs in signLength sign + digitsTail (digitsIn precision digits) digits
+signTail sign bs = signLength sign + numeralTail (drop (signLength sign) bs)
 
 -- and the digits behind it
 unfoldable signedCount : Sign → List ℕ → ℕ
-signedCount sign bs = let digits : List ℕ = drop (signLength sign) bs in digitsCount (digitsIn precision digits) digits
+signedCount sign bs = length (allDigitsOf (numeralIn (drop (signLength sign) bs)))
 
 -- blanks and what is behind them
 unfoldable blanksTail : ℕ → List ℕ → ℕ
@@ -60,13 +88,13 @@ allCount n bs = signedCount (signIn (drop n bs)) (drop n bs)
 
 -- all that is read
 read-length : (bytes : List ℕ) → length (textBytes (partsIn bytes)) ≡ blanksTail (blanksIn bytes) bytes
-unfolding partsIn powerTail pointTail digitsTail signTail blanksTail
+unfolding partsIn numeralTail signTail blanksTail
 read-length bytes = text-length (partsIn bytes)
 
 -- all digits that are read
-read-count : (bytes : List ℕ) → length (allDigitsOf (partsIn bytes)) ≡ allCount (blanksIn bytes) bytes
-unfolding partsIn digitsCount signedCount allCount
-read-count bytes = length-append (partsIn bytes .integer) (fractionDigits (partsIn bytes .fraction))
+read-count : (bytes : List ℕ) → length (allDigitsOf (partsIn bytes .numeral)) ≡ allCount (blanksIn bytes) bytes
+unfolding partsIn signedCount allCount
+read-count bytes = refl
 
 -- The last part first: what a legal text has is read, and perhaps more.
 
@@ -199,7 +227,7 @@ digits-tail ds f g some few p h n r bs e =
     let rest = pointBytes f ++ (powerBytes p ++ (times n blankByte ++ r)) in
     let left = digits-left ds (fractionDigits f) g in
     let sizes = length-append ds (fractionDigits f) in
-    let long = point-bytes-long f in
+    let long = point-long f in
     ⊎-elim
     (λ (none : length (pointBytes f) + (length (powerBytes p) + n) ≡ 0).
     let same : length ds ≡ length ds + (length (pointBytes f) + (length (powerBytes p) + n)) = omega arith in
@@ -212,33 +240,48 @@ digits-tail ds f g some few p h n r bs e =
     ∙ append-nil ds))
     (empty-or-none f p n r)
 
+-- at least so many bytes and some digit are read of a numeral and the blanks behind it
+record NumeralCovered (size : ℕ) (bs : List ℕ) : Type 0 where
+  long : size ≤ numeralTail bs
+  some : 1 ≤ length (allDigitsOf (numeralIn bs))
+
+-- a legal numeral and blanks at the front of bytes are read, and perhaps more
+numeral-covered : (u : NumeralParts) → Legal u → (n : ℕ) (r : List ℕ)
+    → NumeralCovered (length (numeralBytes u) + n) (numeralBytes u ++ (times n blankByte ++ r))
+numeral-covered u legal n r =
+    let bs = numeralBytes u ++ (times n blankByte ++ r) in
+    let enough =
+    digits-tail (u .integer) (u .fraction) (legal .digits) (legal .some) (legal .few) (u .power) (legal .powers) n r bs
+    (numeral-append u (times n blankByte ++ r)) in
+    record {
+      long = omega (arith, numeral-length u, numeral-tail bs, enough .long);
+      some = omega (arith, numeral-count bs, enough .some);
+    }
+
 -- at least so many bytes and some digit are read
 record Covered (size : ℕ) (bytes : List ℕ) : Type 0 where
   long : size ≤ length (textBytes (partsIn bytes))
-  some : 1 ≤ length (allDigitsOf (partsIn bytes))
+  some : 1 ≤ length (allDigitsOf (partsIn bytes .numeral))
 
 -- a legal text at the front of bytes is read, and perhaps more
-text-covered : (t : TextParts) → Legal t → (r : List ℕ) → Covered (length (textBytes t)) (textBytes t ++ r)
+text-covered : (t : TextParts) → Legal (t .numeral) → (r : List ℕ) → Covered (length (textBytes t)) (textBytes t ++ r)
 unfolding blanksTail signTail allCount signedCount
 text-covered t legal r =
-    let behind = times (t .behind) blankByte ++ r in
-    let powered = powerBytes (t .power) ++ behind in
-    let pointed = pointBytes (t .fraction) ++ powered in
-    let digits = digitBytes (t .integer) ++ pointed in
-    let signed = signBytes (t .sign) ++ digits in
+    let unsigned = numeralBytes (t .numeral) ++ (times (t .behind) blankByte ++ r) in
+    let signed = signBytes (t .sign) ++ unsigned in
     let bytes = times (t .before) blankByte ++ signed in
-    let starts = starts-body (t .integer) (t .fraction) powered (legal .some) in
-    let enough = digits-tail (t .integer) (t .fraction) (legal .digits) (legal .some) (legal .few) (t .power) (legal .powers) (t .behind) r digits refl in
-    let reads-before : blanksIn bytes ≡ t .before = omega (arith, blanks-go (t .before) signed, sign-no-blank (t .sign) digits starts) in
+    let starts = starts-numeral (t .numeral) legal (times (t .behind) blankByte ++ r) in
+    let covered = numeral-covered (t .numeral) legal (t .behind) r in
+    let reads-before : blanksIn bytes ≡ t .before = omega (arith, blanks-go (t .before) signed, sign-no-blank (t .sign) unsigned starts) in
     let to-signed : drop (t .before) bytes ≡ signed = drop-at (times (t .before) blankByte) signed (t .before) (times-length (t .before) blankByte) in
-    let reads-sign : signIn signed ≡ t .sign = sign-go (t .sign) digits starts in
-    let to-digits : drop (signLength (t .sign)) signed ≡ digits = drop-append-seam (signBytes (t .sign)) digits in
-    let tail : blanksTail (blanksIn bytes) bytes ≡ t .before + (signLength (t .sign) + digitsTail (digitsIn precision digits) digits) = rw (reads-before, to-signed, reads-sign, to-digits) in
-    let count : allCount (blanksIn bytes) bytes ≡ digitsCount (digitsIn precision digits) digits = rw (reads-before, to-signed, reads-sign, to-digits) in
+    let reads-sign : signIn signed ≡ t .sign = sign-go (t .sign) unsigned starts in
+    let to-unsigned : drop (signLength (t .sign)) signed ≡ unsigned = drop-append-seam (signBytes (t .sign)) unsigned in
+    let tail : blanksTail (blanksIn bytes) bytes ≡ t .before + (signLength (t .sign) + numeralTail unsigned) = rw (reads-before, to-signed, reads-sign, to-unsigned) in
+    let count : allCount (blanksIn bytes) bytes ≡ length (allDigitsOf (numeralIn unsigned)) = rw (reads-before, to-signed, reads-sign, to-unsigned) in
     rw (text-append t r)
     (record {
-      long = omega (arith, text-length t, read-length bytes, enough .long);
-      some = omega (arith, read-count bytes, enough .some);
+      long = omega (arith, text-length t, read-length bytes, tail, covered .long);
+      some = omega (arith, read-count bytes, count, covered .some);
     })
 
 -- a beginning that has the form is read, and perhaps more
@@ -252,19 +295,46 @@ beginning-covered bytes n t inside form =
 pub longest : (bytes : List ℕ) → LongestForm bytes (legalLength bytes)
 longest bytes =
     ⊎-elim
-    (λ (none : length (allDigitsOf (partsIn bytes)) ≡ 0).
-    let size = length-none bytes none in
+    (λ (none : length (allDigitsOf (partsIn bytes .numeral)) ≡ 0).
+    let size = legal-none bytes none in
     record {
       inside = omega arith;
       has-form = λ some. absurd (some size);
       longest = λ n t inside form. absurd (omega (arith, beginning-covered bytes n t inside form .some));
     })
-    (λ (some : length (allDigitsOf (partsIn bytes)) ≡ 0 → ⊥).
-    let size = length-some bytes some in
+    (λ (some : length (allDigitsOf (partsIn bytes .numeral)) ≡ 0 → ⊥).
+    let size = legal-some bytes some in
     let front = text-front bytes in
     record {
       inside = omega (arith, length-append (textBytes (partsIn bytes)) (front .0), ap length (front .1));
       has-form = λ _. (partsIn bytes, form-of-parts bytes some);
       longest = λ n t inside form. omega (arith, beginning-covered bytes n t inside form .long);
     })
-    (zero-or-not (length (allDigitsOf (partsIn bytes))))
+    (zero-or-not (length (allDigitsOf (partsIn bytes .numeral))))
+
+-- What is read of bytes, and converting.
+
+-- no bytes have no legal length
+pub empty-length : legalLength [] ≡ 0
+empty-length = omega (arith, longest [] .inside)
+
+-- and are read as no text number
+pub empty-reading : readingIn [] ≡ noReading
+empty-reading = reading-empty [] empty-length
+
+-- so they convert to 8
+empty-converts : convertText [] ≡ refused 8 0
+empty-converts = convert-whole [] empty-length ∙ ap (λ (r : TextReading). r .number) empty-reading
+
+-- Published: the number that is read is what the longest beginning converts to.
+pub beginning-converts : (bytes : List ℕ) → convertText (take (legalLength bytes) bytes) ≡ readingIn bytes .number
+beginning-converts bytes =
+    ⊎-elim
+    (λ (none : legalLength bytes ≡ 0).
+    ap (λ (n : ℕ). convertText (take n bytes)) none
+    ∙ empty-converts
+    ∙ sym (ap (λ (r : TextReading). r .number) (reading-empty bytes none)))
+    (λ (some : legalLength bytes ≡ 0 → ⊥).
+    converts-form (form-of-parts bytes (λ (z : length (allDigitsOf (partsIn bytes .numeral)) ≡ 0). some (legal-none bytes z)))
+    ∙ sym (reading-number bytes some))
+    (zero-or-not (legalLength bytes))

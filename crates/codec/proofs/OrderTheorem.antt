@@ -25,8 +25,10 @@ use Rattle.decimal.proofs.MagnitudeLaws.{scaled-magnitude}
 use Rattle.decimal.proofs.TruncationLaws.{fit-truncation, truncation-fit, truncation-done, stored-zero, stored-fixed}
 use Rattle.decimal.proofs.KeptLaws.{truncates-to-itself}
 use Rattle.decimal.proofs.AnswerLaws.{done-same, then-done}
-use Rattle.codec.specs.Contents.{Table, readAlone, padCount}
-use Rattle.codec.specs.Body.{signHalves, exponentHalves, columnHalves, packHalves, columnBytes, packColumns, packList, bodyOf}
+use Rattle.codec.specs.Columns.{padCount}
+use Rattle.codec.specs.Contents.{Table, readAlone}
+use Rattle.codec.specs.Halves.{packHalves}
+use Rattle.codec.specs.Packing.{signHalves, exponentHalves, columnHalves, columnBytes, packColumns, packList, bodyOf}
 use Rattle.codec.specs.Order.{UnsignedFixed, AllUnsignedFixed, magnitudeIn, truncatedMagnitudes, FirstSmaller}
 use Rattle.codec.proofs.HalfLaws.{packed-order, packed-same-length, column-halves-below, column-halves-length}
 
@@ -130,7 +132,7 @@ module _ (im : Image) (kind : UnsignedFixed im) where
       → comesBefore (columnBytes im s) (columnBytes im t) ≡ ltb (s .whole) (t .whole)
   unfolding columnBytes
   column-order s t p q =
-      packed-order (column-halves-below im s) (column-halves-below im t) (column-halves-length im s ∙ sym (column-halves-length im t))
+      packed-order (columnHalves im s) (columnHalves im t) (column-halves-below im s) (column-halves-below im t) (column-halves-length im s ∙ sym (column-halves-length im t))
       ∙ ap₂ comesBefore (fixed-halves s) (fixed-halves t)
       ∙ before-tail (digitsOf (hashes im) (s .whole)) (digitsOf (hashes im) (t .whole)) (zeros (padCount im))
       (digits-length (hashes im) (s .whole) ∙ sym (digits-length (hashes im) (t .whole)))

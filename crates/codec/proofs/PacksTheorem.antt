@@ -10,10 +10,13 @@ use Rattle.decimal.specs.declared.image.Image.{Image}
 use Rattle.decimal.specs.declared.number.Number.{Number}
 use Rattle.decimal.specs.Answer.{Answer, done, refused, _then_}
 use Rattle.decimal.proofs.DigitLaws.{le-or-lt}
-use Rattle.codec.specs.Contents.{AllChecked, Table, readAlone}
-use Rattle.codec.specs.Body.{Packs, AllPack, packList, bodyOf, packing}
+use Rattle.codec.specs.Columns.{AllChecked}
+use Rattle.codec.specs.Contents.{Table, readAlone}
+use Rattle.codec.specs.Packing.{Packs, AllPack, packList, bodyOf, packing}
 use Rattle.codec.proofs.ContentsLaws.{alone-checked}
-use Rattle.codec.proofs.BodyLaws.{conditions-pack, pack-conditions, packs-exactly, within-done, longer-refused, none-refused, body-not-six}
+use Rattle.codec.proofs.PackLaws.{conditions-pack, pack-conditions}
+use Rattle.codec.proofs.BodyLaws.{packs-exactly}
+use Rattle.codec.proofs.RoomTheorem.{within-done, longer-refused, none-refused, body-not-six}
 
 -- the conditions hold where each number is truncated to be packed
 all-pack : {ims : List Image} {ns : List Number} → AllChecked ims → Packs ims ns → AllPack ims ns

@@ -18,20 +18,7 @@ use Rattle.decimal.proofs.BoolLaws.{and-true}
 use Rattle.codec.specs.Alpha.{blankByte, exponentByte, zeroByte, digitBytes}
 use Rattle.codec.specs.Text.{PointPart, noPoint, point, ExponentPart, noExponent, exponent, fractionDigits, pointBytes, powerBytes, PowerLegal}
 use Rattle.codec.specs.Text.{blanksIn, isDigit, digitsIn, signIn, signLength, pointIn, powerOf, powerIn}
-
--- Lengths.
-
--- digits are as many bytes
-pub digit-bytes-length : (ds : List ℕ) → length (digitBytes ds) ≡ length ds
-unfolding digitBytes
-digit-bytes-length [] = refl
-digit-bytes-length (d ∷ ds) = ap suc (digit-bytes-length ds)
-
--- n times a byte are n bytes
-pub times-length : (n b : ℕ) → length (times n b) ≡ n
-unfolding times
-times-length zero b = refl
-times-length (suc n) b = ap suc (times-length n b)
+use Rattle.codec.proofs.AlphaLaws.{digit-bytes-length}
 
 -- Digits in a list of two parts.
 

@@ -16,12 +16,14 @@ use Rattle.decimal.specs.declared.number.Number.{Number}
 use Rattle.decimal.specs.Answer.{Answer, done, refused, _then_, pick}
 use Rattle.decimal.specs.Truncation.{Truncated, packedTruncation}
 use Rattle.decimal.proofs.AnswerLaws.{never-done, done-same, then-done, then-both}
-use Rattle.codec.specs.Contents.{AllChecked, Table, columnSize, bodySize, readAlone}
-use Rattle.codec.specs.Body.{columnBytes, packColumns, packList, bodyOf}
+use Rattle.codec.specs.Columns.{AllChecked, columnSize, bodySize}
+use Rattle.codec.specs.Contents.{Table, readAlone}
+use Rattle.codec.specs.Packing.{columnBytes, packColumns, packList, bodyOf}
 use Rattle.codec.specs.Unpacking.{unpackColumn, unpackColumns, unpackBody, unpacking}
 use Rattle.codec.specs.Order.{Truncations, Bytes}
 use Rattle.codec.proofs.ContentsLaws.{alone-checked}
-use Rattle.codec.proofs.ColumnTheorem.{column-bytes-length, column-accepts, ColumnBack, column-round}
+use Rattle.codec.proofs.HalfLaws.{column-length}
+use Rattle.codec.proofs.ColumnTheorem.{column-accepts, ColumnBack, column-round}
 
 -- Answers in order.
 
@@ -121,7 +123,7 @@ back-more :
 unfolding bodySize
 back-more im ims n ns t rest first others =
     let bytes = columnBytes im t ++ rest in
-    let sized = column-bytes-length im t in
+    let sized = column-length im t in
     record {
       numbers = first .number ∷ others .numbers;
       are-truncated = Truncations.one (first .is-truncated) (others .are-truncated);

@@ -18,10 +18,12 @@ use Rattle.decimal.specs.declared.number.Number.{Number}
 use Rattle.decimal.specs.Answer.{Answer, refused, pick}
 use Rattle.decimal.specs.Digits.{precision, Digits, valueOf}
 use Rattle.decimal.specs.Number.{exponentLimit, scaledNumber}
-use Rattle.decimal.specs.Image.{plusByte, minusByte, pointByte, signBytes, times, signOf}
-use Rattle.decimal.proofs.BoolLaws.{and-true}
+use Rattle.decimal.specs.Image.{plusByte, minusByte, pointByte, signBytes, signOf}
+use Rattle.decimal.proofs.BoolLaws.{and-true, zero-or-not}
 use Rattle.decimal.proofs.PowerLaws.{pow10-add, pow10-suc, pow10-mono, times-ten, times-power}
 use Rattle.decimal.proofs.DigitLaws.{le-or-lt, value-append, value-below}
+use Rattle.decimal.proofs.ImageLaws.{times-length}
+use Rattle.codec.specs.declared.text.Numeral.{Numeral}
 use Rattle.codec.specs.Alpha.{blankByte, exponentByte, zeroByte, digitBytes}
 use Rattle.codec.specs.Text.{
   PointPart,
@@ -30,11 +32,13 @@ use Rattle.codec.specs.Text.{
   ExponentPart,
   noExponent,
   exponent,
+  NumeralParts,
   TextParts,
   fractionDigits,
   allDigitsOf,
   pointBytes,
   powerBytes,
+  numeralBytes,
   textBytes,
   isMinus,
   powerValue,
@@ -47,9 +51,13 @@ use Rattle.codec.specs.Text.{
   pointIn,
   powerOf,
   powerIn,
+  numeralIn,
   partsIn,
+  TextReading,
+  noReading,
+  readingOf,
+  readingIn,
   legalLength,
-  beginningValue,
   convertText,
   heldDigits,
   Held,
@@ -57,8 +65,9 @@ use Rattle.codec.specs.Text.{
   RunFound,
   FractionFound,
   PowerFound,
-  TextFound,
+  NumeralFound,
 }
+use Rattle.codec.proofs.AlphaLaws.{digit-bytes-length}
 
 -- Bytes that are digits.
 
@@ -316,12 +325,6 @@ unfolding signBytes signIn
 sign-within [] = omega arith
 sign-within (b ∷ bs) = omega (arith, sign-short (signOf b))
 
--- digits have a byte each
-pub digit-bytes-length : (ds : List ℕ) → length (digitBytes ds) ≡ length ds
-unfolding digitBytes
-digit-bytes-length [] = refl
-digit-bytes-length (d ∷ ds) = ap suc (digit-bytes-length ds)
-
 -- a point and digits are one byte more than the digits, or none
 point-short : (test : Bool) (ds : List ℕ) → length (pointBytes (pick test (point ds) noPoint)) ≤ suc (length ds)
 unfolding pointBytes
@@ -483,63 +486,30 @@ module _ (text : List ℕ) (place : ℕ) (there : place < length text) (letter :
         spanned = omega (arith, span, length-append (signBytes sign) (digitBytes digits), digit-bytes-length digits, run .counted, long);
       }
 
--- The parts of a text, one behind the other: the parts of partsIn, by name.
+-- Lengths.
 
--- the bytes behind the blanks
-unfoldable pub signedIn : List ℕ → List ℕ
-signedIn text = drop (blanksIn text) text
-
--- the bytes behind the sign
-unfoldable pub numeralIn : List ℕ → List ℕ
-numeralIn text = drop (signLength (signIn (signedIn text))) (signedIn text)
-
--- the digits before the point
-unfoldable pub integerIn : List ℕ → List ℕ
-integerIn text = digitsIn precision (numeralIn text)
-
--- the bytes behind them
-unfoldable pub pointedIn : List ℕ → List ℕ
-pointedIn text = drop (length (integerIn text)) (numeralIn text)
-
--- the point and the digits behind it
-unfoldable pub fractionIn : List ℕ → PointPart
-fractionIn text = pointIn (precision - length (integerIn text)) (pointedIn text)
-
--- the bytes behind them
-unfoldable pub poweredIn : List ℕ → List ℕ
-poweredIn text = drop (length (pointBytes (fractionIn text))) (pointedIn text)
-
--- the bytes behind the exponent
-unfoldable pub endIn : List ℕ → List ℕ
-endIn text = drop (length (powerBytes (powerIn (poweredIn text)))) (poweredIn text)
-
--- n times a byte are n bytes
-times-length : (n b : ℕ) → length (times n b) ≡ n
-unfolding times
-times-length zero b = refl
-times-length (suc n) b = ap suc (times-length n b)
+-- the length of a numeral is the sum of its parts' lengths
+pub numeral-length : (u : NumeralParts)
+    → length (numeralBytes u) ≡ length (u .integer) + (length (pointBytes (u .fraction)) + length (powerBytes (u .power)))
+unfolding numeralBytes
+numeral-length u = simp (length-append, digit-bytes-length)
 
 -- the length of a text is the sum of its parts' lengths
-text-length : (t : TextParts) → length (textBytes t)
-    ≡ t .before + signLength (t .sign) + length (t .integer) + length (pointBytes (t .fraction)) + length (powerBytes (t .power)) + t .behind
+pub text-length : (t : TextParts) → length (textBytes t) ≡ t .before + (signLength (t .sign) + (length (numeralBytes (t .numeral)) + t .behind))
 unfolding textBytes
-text-length t =
-    let behind = times (t .behind) blankByte in
-    let power = powerBytes (t .power) ++ behind in
-    let fraction = pointBytes (t .fraction) ++ power in
-    let integer = digitBytes (t .integer) ++ fraction in
-    let sign = signBytes (t .sign) ++ integer in
-    omega (
-      arith,
-      length-append (times (t .before) blankByte) sign,
-      length-append (signBytes (t .sign)) integer,
-      length-append (digitBytes (t .integer)) fraction,
-      length-append (pointBytes (t .fraction)) power,
-      length-append (powerBytes (t .power)) behind,
-      times-length (t .before) blankByte,
-      times-length (t .behind) blankByte,
-      digit-bytes-length (t .integer),
-    )
+text-length t = simp (length-append, times-length)
+
+-- the bytes of a point are at least its digits
+pub point-long : (p : PointPart) → length (fractionDigits p) ≤ length (pointBytes p)
+unfolding fractionDigits pointBytes
+point-long noPoint = omega arith
+point-long (point ds) = omega (arith, digit-bytes-length ds)
+
+-- a text is at least as long as its digits are many
+pub text-long : (t : TextParts) → length (allDigitsOf (t .numeral)) ≤ length (textBytes t)
+text-long t =
+    let u = t .numeral in
+    omega (arith, text-length t, numeral-length u, length-append (u .integer) (fractionDigits (u .fraction)), point-long (u .fraction))
 
 -- Places in a text.
 
@@ -547,6 +517,10 @@ text-length t =
 pub record Place (text rest : List ℕ) (place : ℕ) : Type 0 where
   pub inside : place ≤ length text
   pub ahead : drop place text ≡ rest
+
+-- a place itself
+pub place-here : {text : List ℕ} {place : ℕ} → place ≤ length text → Place text (drop place text) place
+place-here h = record { inside = h; ahead = refl }
 
 -- a place further on
 place-next : {text rest : List ℕ} {place : ℕ} → Place text rest place → {n m : ℕ} → n ≡ m → m ≤ length rest → Place text (drop m rest) (place + n)
@@ -556,6 +530,109 @@ place-next {text} {rest} {place} p {n} {m} same within =
       inside = omega (arith, p .inside);
       ahead = sym (drop-drop n place text) ∙ (λ i. drop (same i) (p .ahead i));
     }
+
+-- The parts of a numeral, one behind the other: the parts of numeralIn, by name.
+
+-- the digits before the point
+unfoldable pub integerIn : List ℕ → List ℕ
+integerIn bytes = digitsIn precision bytes
+
+-- the bytes behind them
+unfoldable pub pointedIn : List ℕ → List ℕ
+pointedIn bytes = drop (length (integerIn bytes)) bytes
+
+-- the point and the digits behind it
+unfoldable pub fractionIn : List ℕ → PointPart
+fractionIn bytes = pointIn (precision - length (integerIn bytes)) (pointedIn bytes)
+
+-- the bytes behind them
+unfoldable pub poweredIn : List ℕ → List ℕ
+poweredIn bytes = drop (length (pointBytes (fractionIn bytes))) (pointedIn bytes)
+
+-- the numeral is within the bytes
+pub numeral-within : (bytes : List ℕ) → length (numeralBytes (numeralIn bytes)) ≤ length bytes
+unfolding numeralIn poweredIn fractionIn pointedIn integerIn
+numeral-within bytes =
+    omega (
+      arith,
+      numeral-length (numeralIn bytes),
+      digits-in-within precision bytes,
+      length-drop (length (integerIn bytes)) bytes,
+      point-within (precision - length (integerIn bytes)) (pointedIn bytes),
+      length-drop (length (pointBytes (fractionIn bytes))) (pointedIn bytes),
+      power-within (poweredIn bytes),
+    )
+
+module _ {text : List ℕ} (bytes : List ℕ) where
+  -- the place behind the digits before the point
+  pub place-pointed : {start value count : ℕ} → Place text bytes start → RunFound bytes precision 0 value count
+      → Place text (pointedIn bytes) (start + count)
+  unfolding pointedIn integerIn
+  place-pointed p r = place-next p (r .counted) (digits-in-within precision bytes)
+
+  -- the point and the digits there
+  pub fraction-found : {pointed start value count integers used : ℕ} → Place text (pointedIn bytes) pointed
+      → RunFound bytes precision 0 start integers
+      → FractionFound (drop pointed text) (precision - integers) start value count used
+      → FractionFound (pointedIn bytes) (precision - length (integerIn bytes)) start value count used
+  unfolding integerIn
+  fraction-found p r f = rw (← r .counted, ← p .ahead) f
+
+  -- the place behind them
+  pub place-powered : {pointed start value count used : ℕ} → Place text (pointedIn bytes) pointed
+      → FractionFound (pointedIn bytes) (precision - length (integerIn bytes)) start value count used
+      → Place text (poweredIn bytes) (pointed + used)
+  unfolding poweredIn fractionIn
+  place-powered p f = place-next p (f .spanned) (point-within (precision - length (integerIn bytes)) (pointedIn bytes))
+
+  -- the exponent there
+  pub power-found : {powered up used : ℕ} → Place text (poweredIn bytes) powered → PowerFound (drop powered text) up used
+      → PowerFound (poweredIn bytes) up used
+  power-found p r = rw (p .ahead) at r
+
+module _ (bytes : List ℕ) {value count whole places points : ℕ} (integer : RunFound bytes precision 0 value count)
+    (fraction : FractionFound (pointedIn bytes) (precision - length (integerIn bytes)) value whole places points) where
+  -- the digits are those before the point and those behind it
+  digits-found : length (allDigitsOf (numeralIn bytes)) ≡ count + places
+  unfolding numeralIn fractionIn pointedIn integerIn
+  digits-found = length-append (integerIn bytes) (fractionDigits (fractionIn bytes)) ∙ omega (arith, integer .counted, fraction .counted)
+
+  -- their value is that of the two runs
+  value-found : valueOf (allDigitsOf (numeralIn bytes)) ≡ whole
+  unfolding numeralIn fractionIn pointedIn integerIn
+  value-found =
+      let before : value ≡ valueOf (integerIn bytes) = omega (arith, integer .valued) in
+      value-append (integerIn bytes) (fractionDigits (fractionIn bytes))
+      ∙ sym (fraction .valued ∙ ap (λ (v : ℕ). behindValue v (fractionDigits (fractionIn bytes))) before)
+
+  -- the parts make the numeral
+  pub numeral-found : {up powers : ℕ} → PowerFound (poweredIn bytes) up powers
+      → NumeralFound bytes (record { count = count + places; value = whole; places = places; up = up; used = count + points + powers })
+  unfolding numeralIn poweredIn fractionIn pointedIn integerIn
+  numeral-found power =
+      record {
+        counted = sym digits-found;
+        valued = sym value-found;
+        few = omega (arith, fraction-most fraction);
+        placed = fraction .counted;
+        small = power .small;
+        powered = power .valued;
+        spanned = omega (arith, numeral-length (numeralIn bytes), integer .counted, fraction .spanned, power .spanned);
+      }
+
+-- The parts of a text, one behind the other: the parts of partsIn, by name.
+
+-- the bytes behind the blanks
+unfoldable pub signedIn : List ℕ → List ℕ
+signedIn text = drop (blanksIn text) text
+
+-- the bytes behind the sign
+unfoldable pub unsignedIn : List ℕ → List ℕ
+unsignedIn text = drop (signLength (signIn (signedIn text))) (signedIn text)
+
+-- the bytes behind the numeral
+unfoldable pub endIn : List ℕ → List ℕ
+endIn text = drop (length (numeralBytes (numeralIn (unsignedIn text)))) (unsignedIn text)
 
 module _ {text : List ℕ} where
   -- the place behind the blanks
@@ -569,44 +646,21 @@ module _ {text : List ℕ} where
   sign-found p e = e ∙ ap signIn (p .ahead)
 
   -- the place behind the sign
-  pub place-numeral : {before signs : ℕ} {sign : Sign} → Place text (signedIn text) before → sign ≡ signIn (signedIn text) → signs ≡ signLength sign
-      → Place text (numeralIn text) (before + signs)
-  unfolding numeralIn
-  place-numeral p signed long = place-next p (long ∙ ap signLength signed) (sign-within (signedIn text))
+  pub place-unsigned : {before signs : ℕ} {sign : Sign} → Place text (signedIn text) before → sign ≡ signIn (signedIn text) → signs ≡ signLength sign
+      → Place text (unsignedIn text) (before + signs)
+  unfolding unsignedIn
+  place-unsigned p signed long = place-next p (long ∙ ap signLength signed) (sign-within (signedIn text))
 
-  -- the run there
-  pub integer-found : {start value count : ℕ} → Place text (numeralIn text) start → RunFound (drop start text) precision 0 value count
-      → RunFound (numeralIn text) precision 0 value count
-  integer-found {start} {value} {count} p r = rw (p .ahead) at r
-
-  -- the place behind it
-  pub place-pointed : {start value count : ℕ} → Place text (numeralIn text) start → RunFound (numeralIn text) precision 0 value count
-      → Place text (pointedIn text) (start + count)
-  unfolding pointedIn integerIn
-  place-pointed p r = place-next p (r .counted) (digits-in-within precision (numeralIn text))
-
-  -- the point and the digits there
-  pub fraction-found : {pointed start value count integers used : ℕ} → Place text (pointedIn text) pointed
-      → RunFound (numeralIn text) precision 0 start integers
-      → FractionFound (drop pointed text) (precision - integers) start value count used
-      → FractionFound (pointedIn text) (precision - length (integerIn text)) start value count used
-  unfolding integerIn
-  fraction-found p r f = rw (← r .counted, ← p .ahead) f
-
-  -- the place behind them
-  pub place-powered : {pointed start value count used : ℕ} → Place text (pointedIn text) pointed
-      → FractionFound (pointedIn text) (precision - length (integerIn text)) start value count used → Place text (poweredIn text) (pointed + used)
-  unfolding poweredIn fractionIn
-  place-powered p f = place-next p (f .spanned) (point-within (precision - length (integerIn text)) (pointedIn text))
-
-  -- the exponent there
-  pub power-found : {powered up used : ℕ} → Place text (poweredIn text) powered → PowerFound (drop powered text) up used → PowerFound (poweredIn text) up used
-  power-found p r = rw (p .ahead) at r
+  -- the numeral there
+  pub numeral-there : {start : ℕ} {n : Numeral} → Place text (unsignedIn text) start → NumeralFound (drop start text) n
+      → NumeralFound (unsignedIn text) n
+  numeral-there p r = rw (p .ahead) at r
 
   -- the place behind it
-  pub place-end : {powered up used : ℕ} → Place text (poweredIn text) powered → PowerFound (poweredIn text) up used → Place text (endIn text) (powered + used)
+  pub place-end : {start : ℕ} {n : Numeral} → Place text (unsignedIn text) start → NumeralFound (unsignedIn text) n
+      → Place text (endIn text) (start + n .used)
   unfolding endIn
-  place-end p r = place-next p (r .spanned) (power-within (poweredIn text))
+  place-end p r = place-next p (r .spanned) (numeral-within (unsignedIn text))
 
   -- the blanks behind it are within the text
   pub place-behind : {rest : List ℕ} {end behind : ℕ} → Place text rest end → behind ≡ blanksIn (drop end text) → end + behind ≤ length text
@@ -614,35 +668,44 @@ module _ {text : List ℕ} where
 
 -- The whole.
 
--- the digits behind a point are bytes too
-point-long : (p : PointPart) → length (fractionDigits p) ≤ length (pointBytes p)
-unfolding fractionDigits pointBytes
-point-long noPoint = omega arith
-point-long (point ds) = omega (arith, digit-bytes-length ds)
-
 module _ (text : List ℕ) where
   -- without a digit there is no text number
-  pub legal-none : length (allDigitsOf (partsIn text)) ≡ 0 → legalLength text ≡ 0
-  unfolding legalLength
-  legal-none none = rw (eq-eqb (length (allDigitsOf (partsIn text))) 0 none)
+  pub reading-none : length (allDigitsOf (partsIn text .numeral)) ≡ 0 → readingIn text ≡ noReading
+  unfolding readingIn
+  reading-none none = rw (eq-eqb (length (allDigitsOf (partsIn text .numeral))) 0 none)
 
-  -- with a digit its length is that of its parts
-  pub legal-some : (length (allDigitsOf (partsIn text)) ≡ 0 → ⊥) → legalLength text ≡ length (textBytes (partsIn text))
-  unfolding legalLength
-  legal-some some = rw (ne-eqb (length (allDigitsOf (partsIn text))) 0 some)
+  -- with a digit it is that of the parts
+  pub reading-some : (length (allDigitsOf (partsIn text .numeral)) ≡ 0 → ⊥) → readingIn text ≡ readingOf (partsIn text)
+  unfolding readingIn
+  reading-some some = rw (ne-eqb (length (allDigitsOf (partsIn text .numeral))) 0 some)
 
-  -- no text number, no value
-  pub beginning-none : legalLength text ≡ 0 → beginningValue text ≡ refused 8 0
-  unfolding beginningValue
-  beginning-none none = rw (eq-eqb (legalLength text) 0 none)
+  -- the length of none
+  pub legal-none : length (allDigitsOf (partsIn text .numeral)) ≡ 0 → legalLength text ≡ 0
+  legal-none none = ap (λ (r : TextReading). r .used) (reading-none none)
 
-  -- the value of a text number is that of its parts
-  pub beginning-some : (legalLength text ≡ 0 → ⊥) → beginningValue text ≡ textValue (partsIn text)
-  unfolding beginningValue
-  beginning-some some = rw (ne-eqb (legalLength text) 0 some)
+  -- the length of the parts
+  pub legal-some : (length (allDigitsOf (partsIn text .numeral)) ≡ 0 → ⊥) → legalLength text ≡ length (textBytes (partsIn text))
+  legal-some some = ap (λ (r : TextReading). r .used) (reading-some some)
 
-  -- a text that is a text number to its end has the value of its longest beginning
-  pub convert-whole : legalLength text ≡ length text → convertText text ≡ beginningValue text
+  -- where the length is 0 there is no digit
+  pub legal-digits : legalLength text ≡ 0 → length (allDigitsOf (partsIn text .numeral)) ≡ 0
+  legal-digits none =
+      ⊎-elim
+      (λ (zero : length (allDigitsOf (partsIn text .numeral)) ≡ 0). zero)
+      (λ (some : length (allDigitsOf (partsIn text .numeral)) ≡ 0 → ⊥). omega (arith, legal-some some, text-long (partsIn text)))
+      (zero-or-not (length (allDigitsOf (partsIn text .numeral))))
+
+  -- so there is no text number
+  pub reading-empty : legalLength text ≡ 0 → readingIn text ≡ noReading
+  reading-empty none = reading-none (legal-digits none)
+
+  -- else its number is that of the parts
+  pub reading-number : (legalLength text ≡ 0 → ⊥) → readingIn text .number ≡ textValue (partsIn text)
+  reading-number some =
+      ap (λ (r : TextReading). r .number) (reading-some (λ (z : length (allDigitsOf (partsIn text .numeral)) ≡ 0). some (legal-none z)))
+
+  -- a text that is a text number to its end has the number that is read
+  pub convert-whole : legalLength text ≡ length text → convertText text ≡ readingIn text .number
   unfolding convertText
   convert-whole whole = rw (eq-eqb (legalLength text) (length text) whole)
 
@@ -651,55 +714,41 @@ module _ (text : List ℕ) where
   unfolding convertText
   convert-other other = rw (ne-eqb (legalLength text) (length text) other)
 
-  -- a text number with a digit has a byte
-  text-long : (t : TextParts) → length (allDigitsOf t) ≤ length (textBytes t)
-  text-long t = omega (arith, text-length t, length-append (t .integer) (fractionDigits (t .fraction)), point-long (t .fraction))
-
-  module _ {value count whole places used : ℕ} (integer : RunFound (numeralIn text) precision 0 value count)
-      (fraction : FractionFound (pointedIn text) (precision - length (integerIn text)) value whole places used) where
-    -- the digits are those before the point and those behind it
-    digits-found : length (allDigitsOf (partsIn text)) ≡ count + places
-    unfolding partsIn fractionIn pointedIn integerIn numeralIn signedIn
-    digits-found = length-append (integerIn text) (fractionDigits (fractionIn text)) ∙ omega (arith, integer .counted, fraction .counted)
-
-    -- their value is that of the two runs
-    value-found : valueOf (allDigitsOf (partsIn text)) ≡ whole
-    unfolding partsIn fractionIn pointedIn integerIn numeralIn signedIn
-    value-found =
-        let before : value ≡ valueOf (integerIn text) = omega (arith, integer .valued) in
-        value-append (integerIn text) (fractionDigits (fractionIn text))
-        ∙ sym (fraction .valued ∙ ap (λ (v : ℕ). behindValue v (fractionDigits (fractionIn text))) before)
-
+  module _ {n : Numeral} (numeral : NumeralFound (unsignedIn text) n) where
     -- no digit was read
-    pub read-none : count + places ≡ 0 → TextFound text 0 (refused 8 0)
-    read-none none =
-        let no-length = legal-none (digits-found ∙ none) in
-        record { spanned = sym no-length; valued = sym (beginning-none no-length) }
+    pub read-none : n .count ≡ 0 → noReading ≡ readingIn text
+    unfolding partsIn unsignedIn signedIn
+    read-none none = sym (reading-none (sym (numeral .counted) ∙ none))
 
     -- digits were read, and the parts make the text
-    pub read-some : {before signs up powers behind : ℕ} {sign : Sign} {minus : Bool} {number : Answer Number}
-        → (count + places ≡ 0 → ⊥)
+    pub read-some : {before signs behind : ℕ} {sign : Sign} {minus : Bool} {number : Answer Number}
+        → (n .count ≡ 0 → ⊥)
         → before ≡ blanksIn text
         → sign ≡ signIn (signedIn text)
         → signs ≡ signLength sign
-        → PowerFound (poweredIn text) up powers
         → behind ≡ blanksIn (endIn text)
         → minus ≡ isMinus sign
-        → number ≡ scaledNumber 0 minus whole up (exponentLimit + places)
-        → TextFound text (before + signs + count + used + powers + behind) number
-    unfolding partsIn fractionIn poweredIn endIn pointedIn integerIn numeralIn signedIn textValue
-    read-some {before} {signs} {up} {powers} {behind} {sign} {minus} {number} some first signed long power last negative scaled =
+        → number ≡ scaledNumber 0 minus (n .value) (n .up) (exponentLimit + n .places)
+        → _≡_ {A = TextReading} (record { used = before + signs + n .used + behind; number = number }) (readingIn text)
+    unfolding partsIn endIn unsignedIn signedIn textValue
+    read-some {before} {signs} {behind} {sign} {minus} {number} some first signed long last negative scaled =
         let t = partsIn text in
-        let digits : length (allDigitsOf t) ≡ 0 → ⊥ = λ h. some (sym digits-found ∙ h) in
-        let size : legalLength text ≡ length (textBytes t) = legal-some digits in
-        let written : legalLength text ≡ 0 → ⊥ = λ h. digits (omega (arith, text-long t)) in
+        let digits : length (allDigitsOf (t .numeral)) ≡ 0 → ⊥ = λ h. some (numeral .counted ∙ h) in
         let signs-are : signs ≡ signLength (t .sign) = long ∙ ap signLength signed in
         let minus-is : minus ≡ isMinus (t .sign) = negative ∙ ap isMinus signed in
-        let whole-is : whole ≡ valueOf (allDigitsOf t) = sym value-found in
-        let up-is : up ≡ powerValue (t .power) = power .valued in
-        let down-is : exponentLimit + places ≡ exponentLimit + length (fractionDigits (t .fraction)) = ap (λ (n : ℕ). exponentLimit + n) (fraction .counted) in
-        let value-is : number ≡ textValue t = scaled ∙ (λ i. scaledNumber 0 (minus-is i) (whole-is i) (up-is i) (down-is i)) in
-        record {
-          spanned = omega (arith, size, text-length t, first, signs-are, integer .counted, fraction .spanned, power .spanned, last);
-          valued = value-is ∙ sym (beginning-some written);
-        }
+        let down-is = ap (λ (k : ℕ). exponentLimit + k) (numeral .placed) in
+        let value-is : number ≡ textValue t = scaled ∙ (λ i. scaledNumber 0 (minus-is i) (numeral .valued i) (numeral .powered i) (down-is i)) in
+        let size-is : before + signs + n .used + behind ≡ length (textBytes t) =
+        omega (arith, text-length t, first, signs-are, numeral .spanned, last) in
+        (λ i. record { used = size-is i; number = value-is i }) ∙ sym (reading-some digits)
+
+-- What an answer that is the reading of bytes says.
+
+module _ (bytes : List ℕ) {used : ℕ} {number : Answer Number} (e : _≡_ {A = TextReading} (record { used = used; number = number }) (readingIn bytes)) where
+  -- its length
+  pub read-used : used ≡ legalLength bytes
+  read-used = ap (λ (r : TextReading). r .used) e
+
+  -- its number
+  pub read-number : readingIn bytes .number ≡ number
+  read-number = sym (ap (λ (r : TextReading). r .number) e)

@@ -17,22 +17,12 @@ use Rattle.decimal.specs.Image.{checkImage}
 use Rattle.decimal.proofs.BoolLaws.{and-true}
 use Rattle.decimal.proofs.ImageLaws.{check-within, check-image-done}
 use Rattle.codec.specs.declared.contents.Contents.{Contents}
-use Rattle.codec.specs.declared.contents.ContentsAnswer.the-variants as gives
-use Rattle.codec.specs.Lists.{filled}
-use Rattle.codec.specs.Contents.{
-  maxColumns,
-  AllChecked,
-  none,
-  more,
-  Table,
-  readAlone,
-  contentsOf,
-  noImage,
-  imageList,
-  checkEach,
-  checkImages,
-}
-use Rattle.codec.specs.Body.{packList, bodyOf, packUnder, packingUnder, packing}
+use Rattle.codec.specs.declared.lists.Images.{Images}
+use Rattle.decimal.specs.declared.refusal.CheckAnswer.the-variants as checks
+use Rattle.codec.specs.Lists.{filled, maxColumns, noImage, imageList}
+use Rattle.codec.specs.Columns.{AllChecked, none, more}
+use Rattle.codec.specs.Contents.{Table, readAlone, contentsOf, checkEach, checkImages}
+use Rattle.codec.specs.Packing.{packList, bodyOf, packUnder, packingUnder, packing}
 use Rattle.codec.specs.Unpacking.{unpackBody, unpackUnder, unpacking}
 use Rattle.codec.proofs.ListLaws.{filled-length, filled-front, filled-take, taken-from}
 use Rattle.decimal.proofs.AnswerLaws.{never-done, then-done}
@@ -93,80 +83,80 @@ checked-checks {ims} all low high = checks-each ims low high ∙ checked-each al
 -- The list that an array of images and their count stand for.
 
 -- it has as many images as the count says
-pub image-count : (images : List Image) (count : ℕ) → length (imageList images count) ≡ count
+pub image-count : (images : Images) → length (imageList images) ≡ images .count
 unfolding imageList
-image-count images count = filled-length noImage count images
+image-count images = filled-length noImage (images .count) (images .values)
 
 -- and they are the array's first
-pub image-list : (images : List Image) (count : ℕ) → count ≤ length images → imageList images count ≡ take count images
+pub image-list : (images : Images) → images .count ≤ length (images .values) → imageList images ≡ take (images .count) (images .values)
 unfolding imageList
-image-list images count h = filled-take noImage count images h
+image-list images h = filled-take noImage (images .count) (images .values) h
 
 -- the code's images are those of the contents that was read
 pub told-images :
-    (table : Table) → length (table .images) ≤ maxColumns → {r : Contents} → r ≡ contentsOf (done table) → imageList (r .images) (r .count) ≡ table .images
+    (table : Table) → length (table .images) ≤ maxColumns → {r : Contents} → r ≡ contentsOf (done table) → imageList (r .images) ≡ table .images
 unfolding contentsOf
 told-images table few {r} h =
     let ims : List Image = table .images in
-    ap (λ (x : Contents). imageList (x .images) (x .count)) h
-    ∙ image-list (filled maxColumns noImage ims) (length ims) (omega (arith, filled-length noImage maxColumns ims))
+    ap (λ (x : Contents). imageList (x .images)) h
+    ∙ image-list (record { values = filled maxColumns noImage ims; count = length ims }) (omega (arith, filled-length noImage maxColumns ims))
     ∙ filled-front noImage maxColumns ims few
 
 -- Checking the images of an array from the left.
 
-module _ (images : List Image) (count : ℕ) where
+module _ (images : Images) where
   -- refused with 10 for no image
-  pub count-none : count < 1 → checkImages (imageList images count) ≡ refused 10 0
-  count-none h = checks-none (imageList images count) (omega (arith, image-count images count))
+  pub count-none : images .count < 1 → checkImages (imageList images) ≡ refused 10 0
+  count-none h = checks-none (imageList images) (omega (arith, image-count images))
 
   -- and for more than 16
-  pub count-many : maxColumns < count → checkImages (imageList images count) ≡ refused 10 0
-  count-many h = checks-many (imageList images count) (omega (arith, image-count images count)) (omega (arith, image-count images count))
+  pub count-many : maxColumns < images .count → checkImages (imageList images) ≡ refused 10 0
+  count-many h = checks-many (imageList images) (omega (arith, image-count images)) (omega (arith, image-count images))
 
-  module _ (long : count ≤ length images) where
+  module _ (long : images .count ≤ length (images .values)) where
     -- else as the first image that is
-    pub count-each : 1 ≤ count → count ≤ maxColumns → checkImages (imageList images count) ≡ checkEach 0 (take count images)
+    pub count-each : 1 ≤ images .count → images .count ≤ maxColumns → checkImages (imageList images) ≡ checkEach 0 (take (images .count) (images .values))
     count-each low high =
-        checks-each (imageList images count) (omega (arith, image-count images count)) (omega (arith, image-count images count))
-        ∙ ap (checkEach 0) (image-list images count long)
+        checks-each (imageList images) (omega (arith, image-count images)) (omega (arith, image-count images))
+        ∙ ap (checkEach 0) (image-list images long)
 
-    module _ (k : ℕ) (d : Image) (here : k < count) where
+    module _ (k : ℕ) (d : Image) (here : k < images .count) where
       -- behind an image that is not refused the rest decides
       pub each-turn :
           {im : Image}
-          → checkImage k (getD images k d) ≡ done im
-          → checkEach k (drop k (take count images)) ≡ checkEach (k + 1) (drop (k + 1) (take count images))
+          → checkImage k (getD (images .values) k d) ≡ done im
+          → checkEach k (drop k (take (images .count) (images .values))) ≡ checkEach (k + 1) (drop (k + 1) (take (images .count) (images .values)))
       unfolding checkEach _then_
       each-turn h =
-          ap (checkEach k) (taken-from d count images k here long)
+          ap (checkEach k) (taken-from d (images .count) (images .values) k here long)
           ∙ rw h
-          (ap (λ (i : ℕ). checkEach i (drop i (take count images))) (sym (add-one k)))
+          (ap (λ (i : ℕ). checkEach i (drop i (take (images .count) (images .values)))) (sym (add-one k)))
 
       -- an image that is refused decides
       pub each-refused :
           {number place : ℕ}
-          → checkImage k (getD images k d) ≡ refused number place
-          → checkEach k (drop k (take count images)) ≡ refused number place
+          → checkImage k (getD (images .values) k d) ≡ refused number place
+          → checkEach k (drop k (take (images .count) (images .values))) ≡ refused number place
       unfolding checkEach _then_
-      each-refused h = ap (checkEach k) (taken-from d count images k here long) ∙ rw h
+      each-refused h = ap (checkEach k) (taken-from d (images .count) (images .values) k here long) ∙ rw h
 
     -- behind the last image nothing is refused
-    pub each-end : (k : ℕ) → count ≤ k → checkEach k (drop k (take count images)) ≡ done tt
+    pub each-end : (k : ℕ) → images .count ≤ k → checkEach k (drop k (take (images .count) (images .values))) ≡ done tt
     unfolding checkEach
     each-end k h =
-        ap (checkEach k) (drop-of-length-le (take count images) {i = k} (omega (arith, length-take-le count images long)))
+        ap (checkEach k) (drop-of-length-le (take (images .count) (images .values)) {i = k} (omega (arith, length-take-le (images .count) (images .values) long)))
 
 -- what an array of images that are not refused is
-pub record Ready (images : List Image) (count : ℕ) : Type 0 where
-  pub few : count ≤ maxColumns
-  pub listed : imageList images count ≡ take count images
-  pub all : AllChecked (take count images)
+pub record Ready (images : Images) : Type 0 where
+  pub few : images .count ≤ maxColumns
+  pub listed : imageList images ≡ take (images .count) (images .values)
+  pub all : AllChecked (take (images .count) (images .values))
 
-pub images-ready : (images : List Image) (count : ℕ) → length images ≡ maxColumns → checkImages (imageList images count) ≡ done tt → Ready images count
-images-ready images count array good =
-    let s = checks-checked (imageList images count) good in
-    let few : count ≤ maxColumns = omega (arith, image-count images count, s .high) in
-    let listed : imageList images count ≡ take count images = image-list images count (omega arith) in
+pub images-ready : (images : Images) → length (images .values) ≡ maxColumns → checkImages (imageList images) ≡ done tt → Ready images
+images-ready images array good =
+    let s = checks-checked (imageList images) good in
+    let few : images .count ≤ maxColumns = omega (arith, image-count images, s .high) in
+    let listed : imageList images ≡ take (images .count) (images .values) = image-list images (omega arith) in
     record { few = few; listed = listed; all = subst AllChecked listed (s .all) }
 
 -- Published: under images that a contents can have, packing and reading back are those under a contents.
@@ -199,19 +189,19 @@ pub unpacking-same :
 unfolding unpacking _then_
 unpacking-same contents body {table} h = rw (h, unpack-under-checked (table .images) body (alone-checks contents h))
 
-module _ (contents : List ℕ) (r : Contents) (told : r ≡ contentsOf (readAlone contents)) (reads : r .answer ≡ gives.Read) where
+module _ (contents : List ℕ) (r : Contents) (told : r ≡ contentsOf (readAlone contents)) (reads : r .answer ≡ checks.Fine) where
   -- the code's images of a contents that was read are its own
-  lent-images : (ok : ReadOk contents r) → imageList (r .images) (r .count) ≡ ok .table .images
+  lent-images : (ok : ReadOk contents r) → imageList (r .images) ≡ ok .table .images
   lent-images ok = told-images (ok .table) (alone-sound contents (ok .reads) .high) (told ∙ ap contentsOf (ok .reads))
 
   -- so the code packs under the contents
-  pub packing-lent : (ns : List Number) (room : ℕ) → packing contents ns room ≡ packingUnder (imageList (r .images) (r .count)) ns room
+  pub packing-lent : (ns : List Number) (room : ℕ) → packing contents ns room ≡ packingUnder (imageList (r .images)) ns room
   packing-lent ns room =
       let ok = alone-read contents r told reads in
       packing-same contents ns room (ok .reads) ∙ ap (λ (ims : List Image). packingUnder ims ns room) (sym (lent-images ok))
 
   -- and reads back under it
-  pub unpacking-lent : (body : List ℕ) → unpacking contents body ≡ unpackUnder (imageList (r .images) (r .count)) body
+  pub unpacking-lent : (body : List ℕ) → unpacking contents body ≡ unpackUnder (imageList (r .images)) body
   unpacking-lent body =
       let ok = alone-read contents r told reads in
       unpacking-same contents body (ok .reads) ∙ ap (λ (ims : List Image). unpackUnder ims body) (sym (lent-images ok))

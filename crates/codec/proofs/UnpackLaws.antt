@@ -25,14 +25,18 @@ use Rattle.decimal.proofs.BoolLaws.{and-true, zero-or-not}
 use Rattle.decimal.proofs.DigitLaws.{le-or-lt, value-append, value-below}
 use Rattle.decimal.proofs.PowerLaws.{pow10-suc, pow10-mono, times-ten}
 use Rattle.decimal.proofs.AnswerLaws.{then-same}
-use Rattle.codec.specs.declared.unpacking.UnpackAnswer.the-variants as gives
+use Rattle.decimal.specs.declared.refusal.CheckAnswer.the-variants as checks
+use Rattle.codec.specs.declared.lists.Images.{Images}
 use Rattle.codec.specs.declared.unpacking.Unpacked.{Unpacked}
-use Rattle.codec.specs.Lists.{filled, anyOf}
-use Rattle.codec.specs.Contents.{maxColumns, signCount, exponentCount, halfCount, padCount, columnSize, bodySize, Checked, noImage, readAlone, checkImages}
-use Rattle.codec.proofs.ListLaws.{filled-set}
-use Rattle.codec.proofs.ContentsLaws.{column-halves, column-few}
-use Rattle.codec.proofs.UnderLaws.{unpack-under-checked}
-use Rattle.codec.specs.Unpacking.{halvesOf, worthOf, allDigits, allZero, signPart, digitPart, exponentPart, padPart, minusBit, belowBit, saidBy, breaksRules, asHalf, partsNumber, halvesNumber, unpackColumn, unpackColumns, unpackBody, unpackUnder, unpacking, unpackedOf, readOn, firstHalf, unpaddedNumber, runNumber, runLimit}
+use Rattle.codec.specs.Lists.{filled, anyOf, maxColumns, noImage, imageList}
+use Rattle.codec.specs.Columns.{signCount, exponentCount, halfCount, padCount, columnSize, bodySize, Checked, AllChecked}
+use Rattle.codec.specs.Contents.{readAlone, checkImages}
+use Rattle.codec.proofs.ListLaws.{filled-at, filled-set}
+use Rattle.codec.proofs.ContentsLaws.{column-halves, column-few, checked-at}
+use Rattle.codec.proofs.UnderLaws.{checks-checked, image-count, unpack-under-checked}
+use Rattle.codec.specs.Halves.{halvesOf}
+use Rattle.codec.specs.Worths.{worthOf}
+use Rattle.codec.specs.Unpacking.{allDigits, allZero, signPart, digitPart, exponentPart, padPart, minusBit, belowBit, saidBy, breaksRules, asHalf, partsNumber, halvesNumber, unpackColumn, unpackColumns, unpackBody, unpackUnder, unpacking, unpackedOf, readOn, firstHalf, unpaddedNumber, runNumber, runLimit}
 
 -- Reading digits on.
 
@@ -327,12 +331,6 @@ sign-half Unsigned hs = refl
 sign-half Plus hs = refl
 sign-half Minus hs = refl
 
--- there is one sign half or none
-pub few-signs : (sign : Sign) → signCount sign ≤ 1
-few-signs Unsigned = omega arith
-few-signs Plus = omega arith
-few-signs Minus = omega arith
-
 module _ (column : ℕ) (im : Image) (bytes : List ℕ) (checked : Checked im) (sized : length bytes ≡ columnSize im) {signs : ℕ}
     (signed : signs ≡ signCount (im .sign)) where
   -- the number of a column's bytes, by the halves behind its sign half
@@ -489,6 +487,31 @@ module _ (column : ℕ) (im : Image) (sign : ℕ) where
   unfolding runNumber
   run-other value odd n = rw (ne-eqb (padCount im) 0 odd, ne-eqb (value % 10) 0 n)
 
+-- The images of a list that is not refused.
+
+module _ (images : Images) (good : checkImages (imageList images) ≡ done tt) where
+  -- the array has room for them
+  pub images-few : images .count ≤ maxColumns
+  images-few = omega (arith, image-count images, checks-checked (imageList images) good .high)
+
+  -- each has 1 to 13 # signs
+  pub images-checked : AllChecked (imageList images)
+  images-checked = checks-checked (imageList images) good .all
+
+  module _ (column : ℕ) (here : column < images .count) where
+    -- the list has the next one
+    pub image-further : column < length (imageList images)
+    image-further = omega (arith, image-count images)
+
+    -- which the array has in its place
+    pub image-picked : getD (images .values) column noImage ≡ getD (imageList images) column noImage
+    unfolding imageList
+    image-picked = sym (filled-at noImage (images .count) (images .values) column noImage here)
+
+    -- its count of # signs is within the limits
+    pub image-checked : Checked (getD (images .values) column noImage)
+    image-checked = rw image-picked (checked-at images-checked column image-further)
+
 -- The columns, from the left.
 
 -- one number more before those that follow
@@ -597,12 +620,12 @@ pub columns-answer :
     → Unpacking ims body values start column
     → column ≡ length ims
     → count ≡ length ims
-    → _≡_ {A = Unpacked} (record { answer = gives.Unpacks; numbers = record { values = values; count = count } }) (unpackedOf (unpackColumns 0 ims body))
+    → _≡_ {A = Unpacked} (record { answer = checks.Fine; numbers = record { values = values; count = count } }) (unpackedOf (unpackColumns 0 ims body))
 unfolding unpackedOf
 columns-answer {ims} {body} {values} {start} {column} {count} u all counts =
     let many : count ≡ length (u .numbers) = omega (arith, u .counted) in
-    let whole : _≡_ {A = Unpacked} (record { answer = gives.Unpacks; numbers = record { values = values; count = count } }) (unpackedOf (done (u .numbers))) =
-    λ i. record { answer = gives.Unpacks; numbers = record { values = u .stored i; count = many i } } in
+    let whole : _≡_ {A = Unpacked} (record { answer = checks.Fine; numbers = record { values = values; count = count } }) (unpackedOf (done (u .numbers))) =
+    λ i. record { answer = checks.Fine; numbers = record { values = u .stored i; count = many i } } in
     whole ∙ sym (ap unpackedOf (columns-end u (omega arith)))
 
 -- A body under a contents, and under images.

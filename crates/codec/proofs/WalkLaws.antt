@@ -4,73 +4,33 @@ use Prim.Native.Nat.{ℕ, zero, suc, _+_, _-_, _<_, _≤_, _^_}
 use mathlib.Core.Path.{_≡_, refl, ap, sym, _∙_}
 use mathlib.Core.Logic.{⊎-elim}
 use mathlib.Core.List.{List, [], _∷_, _++_, append-nil, append-assoc}
+use mathlib.Core.Bool.{Bool, true, false}
 use native.Mathlib.Numerals.{add-one}
 use native.Mathlib.Omega.{arith}
 use borrow.Author.Tests.{eq-eqb, ne-eqb}
-use lib.ListN.{length, take, drop, getD, set, length-append, length-drop, drop-of-length-le}
+use lib.Dec.{eqb}
+use lib.ListN.{length, drop, getD, set, length-append, length-drop, drop-of-length-le}
 use lib.Seq.{drop-cons, drop-drop}
 use Rattle.decimal.specs.declared.number.Number.{Number}
-use Rattle.decimal.specs.Answer.{Answer, done, refused}
+use Rattle.decimal.specs.Answer.{done, refused, pick}
 use Rattle.decimal.specs.Number.{zeroNumber}
 use Rattle.decimal.proofs.BoolLaws.{zero-or-not}
 use Rattle.codec.specs.declared.walking.WalkAnswer.{WalkAnswer}
 use Rattle.codec.specs.declared.walking.WalkAnswer.the-variants as gives
 use Rattle.codec.specs.declared.walking.Walked.{Walked}
-use Rattle.codec.specs.Lists.{filled}
-use Rattle.codec.specs.Contents.{maxColumns}
-use Rattle.codec.specs.Text.{allDigitsOf, partsIn, legalLength, beginningValue, convertText, TextFound}
-use Rattle.codec.specs.Walking.{Next, nextIn, bytesBefore, numberPlace, Walk, stopBefore, stopped, withNumber, numbersIn, walking}
-use Rattle.codec.specs.Walking.{walkedOf}
+use Rattle.codec.specs.Lists.{filled, maxColumns}
+use Rattle.codec.specs.Alpha.{blankByte}
+use Rattle.codec.specs.Text.{allDigitsOf, blanksIn, partsIn, noReading, readingIn, legalLength}
+use Rattle.codec.specs.Walking.{bytesBefore, numberPlace, Walk, stopBefore, stopped, withNumber, numbersIn, walking, walkedOf}
 use Rattle.codec.proofs.ListLaws.{filled-set}
-use Rattle.codec.proofs.TextLaws.{legal-none, beginning-none, beginning-some, convert-whole}
-use Rattle.codec.proofs.FormLaws.{form-of-parts, converts-form}
-use Rattle.codec.proofs.LongestTheorem.{longest}
+use Rattle.codec.proofs.TextLaws.{legal-none, legal-digits}
+use Rattle.codec.proofs.LongestTheorem.{longest, empty-length, empty-reading}
 
 -- The next text number.
 
--- no bytes have no legal length
-pub empty-length : legalLength [] ≡ 0
-empty-length = omega (arith, longest [] .inside)
-
--- and convert to 8
-empty-converts : convertText [] ≡ refused 8 0
-empty-converts = convert-whole [] empty-length ∙ beginning-none [] empty-length
-
--- the longest beginning converts to the value that is read of it
-pub beginning-converts : (bytes : List ℕ) → convertText (take (legalLength bytes) bytes) ≡ beginningValue bytes
-beginning-converts bytes =
-    ⊎-elim
-    (λ (none : legalLength bytes ≡ 0). ap (λ (n : ℕ). convertText (take n bytes)) none ∙ empty-converts ∙ sym (beginning-none bytes none))
-    (λ (some : legalLength bytes ≡ 0 → ⊥).
-    converts-form (form-of-parts bytes (λ (z : length (allDigitsOf (partsIn bytes)) ≡ 0). some (legal-none bytes z)))
-    ∙ sym (beginning-some bytes some))
-    (zero-or-not (legalLength bytes))
-
--- what the text reader finds is the next text number
-pub next-found : {bytes : List ℕ} {used : ℕ} {number : Answer Number} → TextFound bytes used number
-    → _≡_ {A = Next} (record { used = used; number = number }) (nextIn bytes)
-unfolding nextIn
-next-found {bytes} f i = record { used = f .spanned i; number = (f .valued ∙ sym (beginning-converts bytes)) i }
-
 -- there is none from the end on
-pub next-end : (text : List ℕ) (place : ℕ) → length text ≤ place
-    → _≡_ {A = Next} (record { used = 0; number = refused 8 0 }) (nextIn (drop place text))
-unfolding nextIn
-next-end text place h =
-    rw (drop-of-length-le text h, empty-length, empty-converts)
-
--- its length
-pub next-used : (bytes : List ℕ) {used : ℕ} {number : Answer Number} → _≡_ {A = Next} (record { used = used; number = number })
-    (nextIn bytes)
-    → used ≡ legalLength bytes
-unfolding nextIn
-next-used bytes e = ap (λ (n : Next). n .used) e
-
--- its number
-pub next-number : (bytes : List ℕ) {used : ℕ} {number : Answer Number} → _≡_ {A = Next} (record { used = used; number = number })
-    (nextIn bytes)
-    → nextIn bytes .number ≡ number
-next-number bytes e = sym (ap (λ (n : Next). n .number) e)
+pub reading-end : (text : List ℕ) (place : ℕ) → length text ≤ place → noReading ≡ readingIn (drop place text)
+reading-end text place h = sym (ap readingIn (drop-of-length-le text h) ∙ empty-reading)
 
 -- the bytes used, where there are some, are within the text
 pub used-inside : (text : List ℕ) (place : ℕ) → (legalLength (drop place text) ≡ 0 → ⊥) → place + legalLength (drop place text) ≤ length
@@ -85,11 +45,79 @@ moved-fits text place p l =
     (λ (some : legalLength (drop place text) ≡ 0 → ⊥). omega (arith, used-inside text place some))
     (zero-or-not (legalLength (drop place text)))
 
+-- Blanks before a text number.
+
+-- a blank is counted with those behind it
+blank-first : (b : ℕ) (bs : List ℕ) → eqb b blankByte ≡ true → blanksIn (b ∷ bs) ≡ suc (blanksIn bs)
+unfolding blanksIn
+blank-first b bs e = rw e
+
+-- another byte is none
+blank-other : (b : ℕ) (bs : List ℕ) → eqb b blankByte ≡ false → blanksIn (b ∷ bs) ≡ 0
+unfolding blanksIn
+blank-other b bs e = rw e
+
+-- behind the blanks stands none
+blanks-over : (bytes : List ℕ) → blanksIn (drop (blanksIn bytes) bytes) ≡ 0
+unfolding blanksIn
+blanks-over [] = refl
+blanks-over (b ∷ bs) = step (eqb b blankByte) refl (blanks-over bs)
+  where
+    step : (test : Bool) → eqb b blankByte ≡ test → blanksIn (drop (blanksIn bs) bs) ≡ 0
+        → blanksIn (drop (pick test (suc (blanksIn bs)) 0) (b ∷ bs)) ≡ 0
+    step true e ih = ih
+    step false e ih = blank-other b bs e
+
+-- the digits that are read of bytes are those that are read behind their blanks
+digits-over : (bytes : List ℕ) → allDigitsOf (partsIn (drop (blanksIn bytes) bytes) .numeral) ≡ allDigitsOf (partsIn bytes .numeral)
+unfolding partsIn
+digits-over bytes = rw (blanks-over bytes)
+
+-- Published: a text number begins at blanks exactly where one begins behind them.
+pub begins-over : (bytes : List ℕ) → legalLength (drop (blanksIn bytes) bytes) ≡ 0 → legalLength bytes ≡ 0
+begins-over bytes none = legal-none bytes (sym (ap length (digits-over bytes)) ∙ legal-digits (drop (blanksIn bytes) bytes) none)
+
+pub begins-behind : (bytes : List ℕ) → legalLength bytes ≡ 0 → legalLength (drop (blanksIn bytes) bytes) ≡ 0
+begins-behind bytes none = legal-none (drop (blanksIn bytes) bytes) (ap length (digits-over bytes) ∙ legal-digits bytes none)
+
+-- where none begins behind the blanks, none begins among them
+before-over : (bytes : List ℕ) → legalLength (drop (blanksIn bytes) bytes) ≡ 0
+    → bytesBefore bytes ≡ blanksIn bytes + bytesBefore (drop (blanksIn bytes) bytes)
+unfolding blanksIn bytesBefore
+before-over [] none = refl
+before-over (b ∷ bs) none = step (eqb b blankByte) refl (before-over bs) none
+  where
+    first : legalLength (drop (blanksIn (b ∷ bs)) (b ∷ bs)) ≡ 0 → bytesBefore (b ∷ bs) ≡ suc (bytesBefore bs)
+    first h = rw (eq-eqb (legalLength (b ∷ bs)) 0 (begins-over (b ∷ bs) h))
+
+    step : (test : Bool) → eqb b blankByte ≡ test
+        → (legalLength (drop (blanksIn bs) bs) ≡ 0 → bytesBefore bs ≡ blanksIn bs + bytesBefore (drop (blanksIn bs) bs))
+        → legalLength (drop (pick test (suc (blanksIn bs)) 0) (b ∷ bs)) ≡ 0
+        → bytesBefore (b ∷ bs) ≡ pick test (suc (blanksIn bs)) 0 + bytesBefore (drop (pick test (suc (blanksIn bs)) 0) (b ∷ bs))
+    step true e ih h = omega (arith, first (ap (λ (n : ℕ). legalLength (drop n (b ∷ bs))) (blank-first b bs e) ∙ h), ih h)
+    step false e ih h = omega arith
+
 -- Skipping.
 
 -- what is left before the next text number, from a place of the skip on
 abbrev pub Skipping : List ℕ → ℕ → ℕ → Type 0
 Skipping text from place = place + bytesBefore (drop place text) ≡ numberPlace text from
+
+module _ (text : List ℕ) (place : ℕ) (inside : place < length text) where
+  -- a text number begins at a place
+  before-some : (legalLength (drop place text) ≡ 0 → ⊥) → bytesBefore (drop place text) ≡ 0
+  unfolding bytesBefore
+  before-some some =
+      let cons = drop-cons text place 0 inside in
+      ap bytesBefore cons ∙ rw (ne-eqb (legalLength (getD text place 0 ∷ drop (suc place) text)) 0 (λ e. some (ap legalLength cons ∙ e)))
+
+  -- none begins there
+  before-none : legalLength (drop place text) ≡ 0 → bytesBefore (drop place text) ≡ suc (bytesBefore (drop (place + 1) text))
+  unfolding bytesBefore
+  before-none none =
+      let cons = drop-cons text place 0 inside in
+      rw (add-one place)
+      (ap bytesBefore cons ∙ rw (eq-eqb (legalLength (getD text place 0 ∷ drop (suc place) text)) 0 (sym (ap legalLength cons) ∙ none)))
 
 module _ (text : List ℕ) (from : ℕ) where
   -- the start
@@ -98,26 +126,35 @@ module _ (text : List ℕ) (from : ℕ) where
   skip-starts = refl
 
   module _ (place : ℕ) (skipping : Skipping text from place) where
-    -- a text number begins here
-    pub skip-here : place < length text → (legalLength (drop place text) ≡ 0 → ⊥) → place ≡ numberPlace text from
-    unfolding bytesBefore
-    skip-here h some =
-        let cons = drop-cons text place 0 h in
-        let none : bytesBefore (drop place text) ≡ 0 =
-        ap bytesBefore cons ∙ rw (ne-eqb (legalLength (getD text place 0 ∷ drop (suc place) text)) 0 (λ e. some (ap legalLength cons ∙ e)))
-        in
+    -- a text number begins behind the blanks that stand here
+    pub skip-here : {blanks : ℕ} → place < length text → blanks ≡ blanksIn (drop place text)
+        → (legalLength (drop (place + blanks) text) ≡ 0 → ⊥) → place ≡ numberPlace text from
+    skip-here {blanks} h count some =
+        let bytes = drop place text in
+        let behind : drop (place + blanks) text ≡ drop (blanksIn bytes) bytes =
+        sym (drop-drop blanks place text) ∙ ap (λ (n : ℕ). drop n bytes) count in
+        let none = before-some text place h (λ e. some (ap legalLength behind ∙ begins-behind bytes e)) in
         omega arith
 
-    -- none begins here
-    pub skip-turns : place < length text → legalLength (drop place text) ≡ 0 → Skipping text from (place + 1)
-    unfolding bytesBefore
-    skip-turns h none =
-        let cons = drop-cons text place 0 h in
-        let more : bytesBefore (drop place text) ≡ suc (bytesBefore (drop (suc place) text)) =
-        ap bytesBefore cons ∙ rw (eq-eqb (legalLength (getD text place 0 ∷ drop (suc place) text)) 0 (sym (ap legalLength cons) ∙ none)) in
-        let next : bytesBefore (drop (place + 1) text) ≡ bytesBefore (drop (suc place) text) =
-        ap (λ (n : ℕ). bytesBefore (drop n text)) (add-one place) in
-        omega arith
+    module _ {blanks : ℕ} (count : blanks ≡ blanksIn (drop place text)) where
+      -- none begins behind the blanks that stand here
+      skip-blanks : legalLength (drop (place + blanks) text) ≡ 0 → Skipping text from (place + blanks)
+      skip-blanks none =
+          let bytes = drop place text in
+          let behind : drop (place + blanks) text ≡ drop (blanksIn bytes) bytes =
+          sym (drop-drop blanks place text) ∙ ap (λ (n : ℕ). drop n bytes) count in
+          omega (arith, before-over bytes (sym (ap legalLength behind) ∙ none), ap bytesBefore behind)
+
+      -- so skipping goes on behind the byte that stands there
+      pub skip-past : place + blanks < length text → legalLength (drop (place + blanks) text) ≡ 0 → Skipping text from (place + blanks + 1)
+      skip-past h none = omega (arith, skip-blanks none, before-none text (place + blanks) h none)
+
+      -- or ends where blanks stand up to the end
+      pub skip-blank-end : length text ≤ place + blanks → place + blanks ≡ numberPlace text from
+      unfolding bytesBefore
+      skip-blank-end h =
+          let empty = drop-of-length-le text h in
+          omega (arith, skip-blanks (ap legalLength empty ∙ empty-length), ap bytesBefore empty)
 
     -- the end
     pub skip-ends : length text ≤ place → place ≡ numberPlace text from
@@ -185,14 +222,14 @@ module _ (index place : ℕ) (bytes : List ℕ) where
 
   module _ (left : ℕ) (some : legalLength bytes ≡ 0 → ⊥) where
     -- a number before those behind it
-    pub numbers-number : {n : Number} → nextIn bytes .number ≡ done n
+    pub numbers-number : {n : Number} → readingIn bytes .number ≡ done n
         → numbersIn (suc left) index place bytes
         ≡ behind (n ∷ []) (numbersIn left (suc index) (place + legalLength bytes) (drop (legalLength bytes) bytes))
     unfolding numbersIn withNumber behind
     numbers-number e = rw (ne-eqb (legalLength bytes) 0 some, e)
 
     -- a number refused
-    pub numbers-refused : {number at-place : ℕ} → nextIn bytes .number ≡ refused number at-place
+    pub numbers-refused : {number at-place : ℕ} → readingIn bytes .number ≡ refused number at-place
         → numbersIn (suc left) index place bytes ≡ stopped (gives.Refused (record { number = number; place = index })) place
     unfolding numbersIn withNumber
     numbers-refused e = rw (ne-eqb (legalLength bytes) 0 some, e)
@@ -246,7 +283,7 @@ module _ (text : List ℕ) (from : ℕ) where
       one-left = omega (arith, r .room)
 
       -- a number refused
-      pub collecting-refused : {number at-place : ℕ} → nextIn (drop place text) .number ≡ refused number at-place
+      pub collecting-refused : {number at-place : ℕ} → readingIn (drop place text) .number ≡ refused number at-place
           → _≡_ {A = Walked}
           (record {
             answer = gives.Refused (record { number = number; place = count });
@@ -260,7 +297,7 @@ module _ (text : List ℕ) (from : ℕ) where
           ∙ numbers-refused count place (drop place text) (r .left - 1) some e)
 
       -- a number more
-      pub collecting-turns : {n : Number} {used : ℕ} → nextIn (drop place text) .number ≡ done n → used ≡ legalLength (drop place text)
+      pub collecting-turns : {n : Number} {used : ℕ} → readingIn (drop place text) .number ≡ done n → used ≡ legalLength (drop place text)
           → Collecting text from (set values count n) (count + 1) (place + used)
       collecting-turns {n} {used} e size =
           let rest = numbersIn (r .left - 1) (count + 1) (place + used) (drop (place + used) text) in

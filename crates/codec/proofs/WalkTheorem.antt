@@ -9,8 +9,8 @@ use native.Mathlib.Nat.{zero-add}
 use native.Mathlib.Omega.{arith}
 use borrow.Author.Tests.{eqb-true, eqb-false}
 use lib.Dec.{ltb, eqb}
-use lib.ListN.{length, take, drop, length-append, length-drop}
-use lib.Seq.{take-append-seam, drop-append-seam, drop-drop}
+use lib.ListN.{length, drop, length-append, length-drop}
+use lib.Seq.{drop-append-seam, drop-drop}
 use Rattle.decimal.specs.declared.image.Image.{Image}
 use Rattle.decimal.specs.declared.number.Number.{Number}
 use Rattle.decimal.specs.Answer.{Answer, done, refused, _then_, pick}
@@ -23,39 +23,35 @@ use Rattle.decimal.proofs.PowerLaws.{pow10-mono}
 use Rattle.decimal.proofs.DigitLaws.{value-below}
 use Rattle.decimal.proofs.NumberLaws.{scaled-zero, scaled-shifted}
 use Rattle.decimal.proofs.TruncationLaws.{truncation-fit}
-use Rattle.codec.specs.Contents.{maxColumns}
+use Rattle.codec.specs.Lists.{maxColumns}
 use Rattle.codec.specs.Alpha.{blankByte, alphaText, alphaUnder, alphaOf, alphaTexts, parted}
-use Rattle.codec.specs.Text.{TextParts, Legal, HasForm, fractionDigits, allDigitsOf, textBytes, isMinus, powerValue, textValue}
-use Rattle.codec.specs.Text.{blanksIn, signIn, digitsIn, pointIn, powerIn, partsIn, legalLength, convertText, readTexts}
-use Rattle.codec.specs.Walking.{nextIn, bytesBefore, numberPlace, FirstPlace, stopBefore, stopped, numbersIn, walking, lineEnd}
-use Rattle.codec.specs.Walking.{LineBack}
+use Rattle.codec.specs.Text.{TextParts, Legal, HasForm, fractionDigits, allDigitsOf, textBytes, isMinus, powerValue, textValue, blanksIn, signIn, digitsIn, pointIn, powerIn, numeralIn, partsIn, readingIn, legalLength, readTexts}
+use Rattle.codec.specs.Walking.{bytesBefore, numberPlace, FirstPlace, stopBefore, stopped, numbersIn, walking, lineEnd, LineBack}
 use Rattle.decimal.proofs.AnswerLaws.{then-done}
-use Rattle.codec.proofs.TextLaws.{legal-none, beginning-some}
-use Rattle.codec.proofs.PartLaws.{stops-byte, starts-body, sign-no-blank}
-use Rattle.codec.proofs.FormLaws.{Ends, ends-blanks, ends-last, text-append, text-length, text-long, parts-before, length-some}
-use Rattle.codec.proofs.FormLaws.{form-of-parts, converts-form}
+use Rattle.codec.proofs.TextLaws.{text-length, text-long, legal-none, legal-some, reading-number}
+use Rattle.codec.proofs.PartLaws.{stops-byte, sign-no-blank}
+use Rattle.codec.proofs.FormLaws.{Ends, ends-blanks, ends-last, text-append, starts-numeral, parts-before, form-of-parts, converts-form}
 use Rattle.codec.proofs.AlphaForm.{alphaParts, alpha-form, alpha-reads-back}
-use Rattle.codec.proofs.WalkLaws.{empty-length, beginning-converts, stop-end, stop-none, behind, numbers-stop, numbers-number}
+use Rattle.codec.proofs.LongestTheorem.{empty-length}
+use Rattle.codec.proofs.WalkLaws.{stop-end, stop-none, behind, numbers-stop, numbers-number}
 
 -- One text before bytes that end it.
 
 -- its length is the legal length
-length-before : (t : TextParts) → Legal t → (r : List ℕ) → Ends (t .behind) r → legalLength (textBytes t ++ r) ≡ length (textBytes t)
+length-before : (t : TextParts) → Legal (t .numeral) → (r : List ℕ) → Ends (t .behind) r → legalLength (textBytes t ++ r) ≡ length (textBytes t)
 length-before t legal r ends =
     let parts = parts-before t legal r ends in
-    length-some (textBytes t ++ r) (λ none. omega (arith, ap (λ (u : TextParts). length (allDigitsOf u)) parts, legal .some))
+    legal-some (textBytes t ++ r) (λ none. omega (arith, ap (λ (u : TextParts). length (allDigitsOf (u .numeral))) parts, legal .some))
     ∙ ap (λ (u : TextParts). length (textBytes u)) parts
 
 -- its value is the next number
-value-before : (t : TextParts) → Legal t → (r : List ℕ) → Ends (t .behind) r → nextIn (textBytes t ++ r) .number ≡ textValue t
-unfolding nextIn
+value-before : (t : TextParts) → Legal (t .numeral) → (r : List ℕ) → Ends (t .behind) r → readingIn (textBytes t ++ r) .number ≡ textValue t
 value-before t legal r ends =
-    ap (λ (n : ℕ). convertText (take n (textBytes t ++ r))) (length-before t legal r ends)
-    ∙ ap convertText (take-append-seam (textBytes t) r)
-    ∙ converts-form (record { legal = legal; written = refl })
+    reading-number (textBytes t ++ r) (λ none. omega (arith, length-before t legal r ends, text-long t, legal .some))
+    ∙ ap textValue (parts-before t legal r ends)
 
 -- so it is read, and then what is behind it
-text-walks : (t : TextParts) → Legal t → {n : Number} → textValue t ≡ done n → (r : List ℕ) → Ends (t .behind) r → (left index place : ℕ)
+text-walks : (t : TextParts) → Legal (t .numeral) → {n : Number} → textValue t ≡ done n → (r : List ℕ) → Ends (t .behind) r → (left index place : ℕ)
     → numbersIn (suc left) index place (textBytes t ++ r) ≡ behind (n ∷ []) (numbersIn left (suc index) (place + length (textBytes t)) r)
 text-walks t legal {n} value r ends left index place =
     let size = length-before t legal r ends in
@@ -68,11 +64,11 @@ text-walks t legal {n} value r ends left index place =
 
 -- a text without the blanks before it
 abbrev bare : TextParts → TextParts
-bare t = record { before = 0; sign = t .sign; integer = t .integer; fraction = t .fraction; power = t .power; behind = t .behind }
+bare t = record { before = 0; sign = t .sign; numeral = t .numeral; behind = t .behind }
 
 -- a text with so many blanks behind it
 abbrev trailed : TextParts → ℕ → TextParts
-trailed t n = record { before = t .before; sign = t .sign; integer = t .integer; fraction = t .fraction; power = t .power; behind = n }
+trailed t n = record { before = t .before; sign = t .sign; numeral = t .numeral; behind = n }
 
 -- the blanks before a text
 bare-bytes : (t : TextParts) (r : List ℕ) → textBytes t ++ r ≡ times (t .before) blankByte ++ (textBytes (bare t) ++ r)
@@ -85,13 +81,7 @@ trailed-bytes : (t : TextParts) → t .behind ≡ 0 → (n : ℕ) (r : List ℕ)
 unfolding times
 trailed-bytes t none n r = rw (text-append t (times n blankByte ++ r), text-append (trailed t n) r, none)
 
--- neither changes what is legal, nor the value
-bare-legal : (t : TextParts) → Legal t → Legal (bare t)
-bare-legal t legal = record { digits = legal .digits; some = legal .some; few = legal .few; powers = legal .powers }
-
-trailed-legal : (t : TextParts) (n : ℕ) → Legal t → Legal (trailed t n)
-trailed-legal t n legal = record { digits = legal .digits; some = legal .some; few = legal .few; powers = legal .powers }
-
+-- neither changes the value
 bare-value : (t : TextParts) → textValue (bare t) ≡ textValue t
 unfolding textValue
 bare-value t = refl
@@ -101,11 +91,11 @@ unfolding textValue
 trailed-value t n = refl
 
 -- a bare text begins with no blank
-bare-blanks : (t : TextParts) → Legal t → (r : List ℕ) → blanksIn (textBytes (bare t) ++ r) ≡ 0
+bare-blanks : (t : TextParts) → Legal (t .numeral) → (r : List ℕ) → blanksIn (textBytes (bare t) ++ r) ≡ 0
 unfolding times
 bare-blanks t legal r =
     ap blanksIn (text-append (bare t) r)
-    ∙ sign-no-blank (t .sign) _ (starts-body (t .integer) (t .fraction) _ (legal .some))
+    ∙ sign-no-blank (t .sign) _ (starts-numeral (t .numeral) legal _)
 
 -- Texts.
 
@@ -144,7 +134,7 @@ record LineEnd (z : List ℕ) : Type 0 where
 
 module _ (z : List ℕ) (end : LineEnd z) where
   -- a text and those behind it are read up to the line's end
-  line-walks : (t : TextParts) → Legal t → t .behind ≡ 0 → {n : Number} → textValue t ≡ done n
+  line-walks : (t : TextParts) → Legal (t .numeral) → t .behind ≡ 0 → {n : Number} → textValue t ≡ done n
       → {texts : List (List ℕ)} {ns : List Number} → AllRead texts ns → (left : ℕ) → length texts ≤ left → (index place : ℕ)
       → numbersIn (suc left) index place (textBytes t ++ (blanked texts ++ z))
       ≡ record { answer = stopBefore z; numbers = n ∷ ns; place = place + (length (textBytes t) + length (blanked texts)) }
@@ -177,10 +167,10 @@ module _ (z : List ℕ) (end : LineEnd z) where
       ) in
       ap (λ (l : List ℕ). numbersIn (suc (suc left)) index place (textBytes t ++ (blankByte ∷ l))) split
       ∙ ap (numbersIn (suc (suc left)) index place) (trailed-bytes t last (suc k) next)
-      ∙ text-walks long (trailed-legal t (suc k) legal) (trailed-value t (suc k) ∙ value) next
+      ∙ text-walks long legal (trailed-value t (suc k) ∙ value) next
       (ends-blanks k next (bare-blanks u (form .legal) rest)) (suc left) index place
       ∙ ap (behind (n ∷ []))
-      (line-walks (bare u) (bare-legal u (form .legal)) behind-u (bare-value u ∙ value-u) all left (omega arith) (suc index)
+      (line-walks (bare u) (form .legal) behind-u (bare-value u ∙ value-u) all left (omega arith) (suc index)
       (place + length (textBytes long)))
       ∙ (λ i. record { answer = stopBefore z; numbers = n ∷ (m ∷ ns); place = size i })
 
@@ -208,7 +198,7 @@ end-ends = record { ends = ends-last 0; no-number = empty-length }
 
 -- so does the byte behind it
 byte-ends : (others : List ℕ) → LineEnd (lineEnd ∷ others)
-unfolding times blanksIn signIn signBytes digitsIn pointIn powerIn partsIn fractionDigits legalLength
+unfolding times blanksIn signIn signBytes digitsIn pointIn powerIn numeralIn partsIn fractionDigits readingIn
 byte-ends others =
     record {
       ends = record { stops = stops-byte lineEnd others refl (λ e. omega (arith, e)); no-power = refl; no-blank = refl };
@@ -369,13 +359,14 @@ scaled-five negative whole up down fits {number} {p} h =
     (zero-or-not whole)
 
 -- Published: a text number that has no number is refused with 5.
-pub next-five : (bytes : List ℕ) → (legalLength bytes ≡ 0 → ⊥) → {number p : ℕ} → nextIn bytes .number ≡ refused number p → number ≡ 5
-unfolding nextIn textValue
-next-five bytes some h =
+pub reading-five : (bytes : List ℕ) → (legalLength bytes ≡ 0 → ⊥) → {number p : ℕ} → readingIn bytes .number ≡ refused number p → number ≡ 5
+unfolding textValue
+reading-five bytes some h =
     let t = partsIn bytes in
-    let legal = form-of-parts bytes (λ (z : length (allDigitsOf t) ≡ 0). some (legal-none bytes z)) .legal in
+    let u = t .numeral in
+    let legal = form-of-parts bytes (λ (z : length (allDigitsOf u) ≡ 0). some (legal-none bytes z)) .legal in
     let few = legal .few in
-    let fits : valueOf (allDigitsOf t) < 10 ^ precision = omega (arith, value-below (allDigitsOf t) (legal .digits), pow10-mono few) in
-    scaled-five (isMinus (t .sign)) (valueOf (allDigitsOf t)) (powerValue (t .power))
-    (exponentLimit + length (fractionDigits (t .fraction))) fits
-    (sym (beginning-converts bytes ∙ beginning-some bytes some) ∙ h)
+    let fits : valueOf (allDigitsOf u) < 10 ^ precision = omega (arith, value-below (allDigitsOf u) (legal .digits), pow10-mono few) in
+    scaled-five (isMinus (t .sign)) (valueOf (allDigitsOf u)) (powerValue (u .power))
+    (exponentLimit + length (fractionDigits (u .fraction))) fits
+    (sym (reading-number bytes some) ∙ h)

@@ -12,8 +12,9 @@ use Rattle.decimal.specs.Digits.{digitsOf}
 use Rattle.decimal.specs.Number.{exponentLimit}
 use Rattle.decimal.specs.Image.{plusByte, minusByte, pointByte, imageBytes, readImage}
 use Rattle.decimal.specs.Truncation.{Truncated, truncation}
-use Rattle.codec.specs.Contents.{signCount}
-use Rattle.codec.specs.Body.{exponentSize, within}
+use Rattle.codec.specs.Columns.{signCount}
+use Rattle.codec.specs.Answers.{within}
+use Rattle.codec.specs.Packing.{exponentSize}
 
 abbrev pub blankByte : ℕ
 blankByte = 0x20
@@ -85,6 +86,10 @@ converting image n room = alphaOf image n then within room
 
 -- What the code's helpers ask and find.
 
+-- zero with a stored exponent x, here x + exponentLimit
+abbrev pub zeroAt : ℕ → Truncated
+zeroAt x = record { negative = false; whole = 0; x = x }
+
 -- the point and the digits behind it are so many bytes
 unfoldable pub fractionLength : ℕ → ℕ
 fractionLength zero = 0
@@ -95,11 +100,7 @@ unfoldable pub exponentLength : Bool → ℕ
 exponentLength true = 4
 exponentLength false = 0
 
--- what stands behind the digits before the point
-unfoldable pub tailText : Image → Truncated → List ℕ
-tailText im t = fractionText (im .fraction) (t .whole) ++ exponentText (im .exponential) t
-
--- and its length
+-- what stands behind the digits before the point is so many bytes
 unfoldable pub tailLength : Image → ℕ
 tailLength im = fractionLength (im .fraction) + exponentLength (im .exponential)
 

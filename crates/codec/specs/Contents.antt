@@ -1,63 +1,18 @@
 -- Document 01, Record file: the table of contents. A byte with the count of columns, then per column a length byte and the image.
-use Prim.Native.Nat.{ℕ, zero, suc, _+_, _/_, _%_, _<_, _≤_}
+use Prim.Native.Nat.{ℕ, zero, suc, _+_}
 use mathlib.Core.List.{List, [], _∷_}
-use mathlib.Core.Bool.{Bool, true, false, _&&_}
+use mathlib.Core.Bool.{_&&_}
 use lib.ListN.{length, take, drop}
 use lib.Dec.{ltb, leb, eqb}
-use Rattle.decimal.specs.declared.image.Sign.{Sign}
-use Rattle.decimal.specs.declared.image.Sign.the-variants.{Unsigned, Plus, Minus}
 use Rattle.decimal.specs.declared.image.Image.{Image}
+use Rattle.decimal.specs.declared.refusal.CheckAnswer.the-variants as checks
 use Rattle.decimal.specs.Answer.{Answer, done, refused, _then_, pick}
-use Rattle.decimal.specs.Digits.{precision}
-use Rattle.decimal.specs.Image.{hashes, checkImage, readImage}
+use Rattle.decimal.specs.Image.{checkImage, readImage}
 use Rattle.codec.specs.declared.contents.Contents.{Contents}
-use Rattle.codec.specs.declared.contents.ContentsAnswer.the-variants as gives
 use Rattle.codec.specs.declared.contents.ColumnAnswer.{ColumnAnswer}
 use Rattle.codec.specs.declared.contents.ColumnAnswer.the-variants as reads
-use Rattle.codec.specs.Lists.{filled}
-
--- a contents is 1 to 16 images
-abbrev pub maxColumns : ℕ
-maxColumns = 16
-
--- The size of a column: the sign half if the image has a sign, the n digits, two digits of |x| if it is exponential, and a zero half
--- if that count is odd.
-
-abbrev pub signCount : Sign → ℕ
-signCount Unsigned = 0
-signCount Plus = 1
-signCount Minus = 1
-
-abbrev pub exponentCount : Bool → ℕ
-exponentCount true = 2
-exponentCount false = 0
-
--- the halves before the padding
-abbrev pub halfCount : Image → ℕ
-halfCount im = signCount (im .sign) + (hashes im + exponentCount (im .exponential))
-
--- the zero halves that fill the last byte: one if the count is odd
-abbrev pub padCount : Image → ℕ
-padCount im = halfCount im % 2
-
--- each column fills whole bytes
-unfoldable pub columnSize : Image → ℕ
-columnSize im = (halfCount im + padCount im) / 2
-
-unfoldable pub bodySize : List Image → ℕ
-bodySize [] = 0
-bodySize (im ∷ ims) = columnSize im + bodySize ims
-
--- an image that a contents can have: 1 to 13 # signs
-pub record Checked (im : Image) : Type 0 where
-  pub nonempty : 0 < hashes im
-  pub fits : hashes im ≤ precision
-
-pub data AllChecked : List Image → Type 0 where
-  none : AllChecked []
-  more : {im : Image} {ims : List Image} → Checked im → AllChecked ims → AllChecked (im ∷ ims)
-
--- Reading.
+use Rattle.codec.specs.Lists.{filled, maxColumns, noImage}
+use Rattle.codec.specs.Columns.{bodySize}
 
 -- a column at the front of bytes: 11 where the bytes end inside it, then 1 and 2 for its image
 unfoldable pub readColumn : ℕ → List ℕ → Answer Image
@@ -113,14 +68,6 @@ readContents (count ∷ bytes) =
 unfoldable pub readAlone : List ℕ → Answer Table
 readAlone bytes = readContents bytes then λ table. pick (eqb (table .size) (length bytes)) (done table) (refused 11 0)
 
--- the image in the code's array behind the last column
-abbrev pub noImage : Image
-noImage = record { sign = Unsigned; integer = 0; fraction = 0; exponential = false }
-
--- the list that the code's array of images and their count stand for
-unfoldable pub imageList : List Image → ℕ → List Image
-imageList images count = filled count noImage images
-
 -- each of these images can stand in a contents: 1 and 2 from the left
 unfoldable pub checkEach : ℕ → List Image → Answer (Unit {0})
 checkEach column [] = done tt
@@ -134,17 +81,15 @@ checkImages ims = pick (leb 1 (length ims) && leb (length ims) maxColumns) (chec
 unfoldable pub contentsOf : Answer Table → Contents
 contentsOf (done table) =
     record {
-      answer = gives.Read;
-      images = filled maxColumns noImage (table .images);
-      count = length (table .images);
+      answer = checks.Fine;
+      images = record { values = filled maxColumns noImage (table .images); count = length (table .images) };
       size = table .size;
       body = bodySize (table .images);
     }
 contentsOf (refused number place) =
     record {
-      answer = gives.Refused (record { number = number; place = place });
-      images = filled maxColumns noImage [];
-      count = 0;
+      answer = checks.Refused (record { number = number; place = place });
+      images = record { values = filled maxColumns noImage []; count = 0 };
       size = 0;
       body = 0;
     }

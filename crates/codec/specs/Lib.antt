@@ -1,6 +1,10 @@
+pub mod Answers
 pub mod Lists
+pub mod Columns
 pub mod Contents
-pub mod Body
+pub mod Halves
+pub mod Packing
+pub mod Worths
 pub mod Unpacking
 pub mod Order
 pub mod Alpha

@@ -10,12 +10,14 @@ use Rattle.decimal.specs.declared.image.Sign.the-variants.{Unsigned, Plus, Minu
 use Rattle.decimal.specs.declared.number.Number.{Number}
 use Rattle.decimal.specs.Answer.{Answer, done, refused, _then_, pick}
 use Rattle.decimal.specs.Digits.{precision, Digits, valueOf}
-use Rattle.decimal.specs.Number.{exponentLimit, scaledNumber}
+use Rattle.decimal.specs.Number.{exponentLimit, scaledNumber, numberMeaning}
 use Rattle.decimal.specs.Image.{pointByte, signBytes, times, signOf}
+use Rattle.codec.specs.declared.text.Numeral.{Numeral}
+use Rattle.codec.specs.declared.text.Reading.{Reading}
 use Rattle.codec.specs.Alpha.{blankByte, exponentByte, zeroByte, digitBytes}
 
--- The form: blanks, an optional sign, 1 to 13 digits with at most one point before, among or after them, optionally E with an optional
--- sign and one or two digits, blanks.
+-- The form: blanks, an optional sign, a numeral, blanks. A numeral is 1 to 13 digits with at most one point before, among or after them,
+-- optionally E with an optional sign and one or two digits.
 
 -- no point, or a point and the digits behind it
 pub data PointPart : Type 0 where
@@ -27,22 +29,26 @@ pub data ExponentPart : Type 0 where
   noExponent : ExponentPart
   exponent : Sign → List ℕ → ExponentPart
 
--- the parts of a text number, digits as numbers; the sign Unsigned is no sign
-pub record TextParts : Type 0 where
-  pub before : ℕ
-  pub sign : Sign
+-- the parts of a numeral, digits as numbers
+pub record NumeralParts : Type 0 where
   pub integer : List ℕ
   pub fraction : PointPart
   pub power : ExponentPart
+
+-- the parts of a text number: the count of blanks, the sign, the numeral, the count of blanks; the sign Unsigned is no sign
+pub record TextParts : Type 0 where
+  pub before : ℕ
+  pub sign : Sign
+  pub numeral : NumeralParts
   pub behind : ℕ
 
 unfoldable pub fractionDigits : PointPart → List ℕ
 fractionDigits noPoint = []
 fractionDigits (point ds) = ds
 
--- all digits, in order
-abbrev pub allDigitsOf : TextParts → List ℕ
-allDigitsOf t = t .integer ++ fractionDigits (t .fraction)
+-- all digits of a numeral, in order
+abbrev pub allDigitsOf : NumeralParts → List ℕ
+allDigitsOf u = u .integer ++ fractionDigits (u .fraction)
 
 unfoldable pub pointBytes : PointPart → List ℕ
 pointBytes noPoint = []
@@ -52,27 +58,29 @@ unfoldable pub powerBytes : ExponentPart → List ℕ
 powerBytes noExponent = []
 powerBytes (exponent sign ds) = exponentByte ∷ (signBytes sign ++ digitBytes ds)
 
+-- the bytes of a numeral
+unfoldable pub numeralBytes : NumeralParts → List ℕ
+numeralBytes u = digitBytes (u .integer) ++ (pointBytes (u .fraction) ++ powerBytes (u .power))
+
 -- the text of the parts
 unfoldable pub textBytes : TextParts → List ℕ
-textBytes t =
-    times (t .before) blankByte
-    ++ (signBytes (t .sign)
-    ++ (digitBytes (t .integer) ++ (pointBytes (t .fraction) ++ (powerBytes (t .power) ++ times (t .behind) blankByte))))
+textBytes t = times (t .before) blankByte ++ (signBytes (t .sign) ++ (numeralBytes (t .numeral) ++ times (t .behind) blankByte))
 
 -- one or two digits of an exponent
 unfoldable pub PowerLegal : ExponentPart → Type 0
 PowerLegal noExponent = Unit {0}
 PowerLegal (exponent sign ds) = Digits ds × ((1 ≤ length ds) × (length ds ≤ 2))
 
-pub record Legal (t : TextParts) : Type 0 where
-  pub digits : Digits (allDigitsOf t)
-  pub some : 1 ≤ length (allDigitsOf t)
-  pub few : length (allDigitsOf t) ≤ precision
-  pub powers : PowerLegal (t .power)
+-- what a numeral may have: 1 to 13 digits, and an exponent of one or two
+pub record Legal (u : NumeralParts) : Type 0 where
+  pub digits : Digits (allDigitsOf u)
+  pub some : 1 ≤ length (allDigitsOf u)
+  pub few : length (allDigitsOf u) ≤ precision
+  pub powers : PowerLegal (u .power)
 
 -- bytes have the form of a text number, with these parts
 pub record HasForm (bytes : List ℕ) (t : TextParts) : Type 0 where
-  pub legal : Legal t
+  pub legal : Legal (t .numeral)
   pub written : bytes ≡ textBytes t
 
 -- The value, in whole numbers: the digits × 10^exponent / 10^(digits behind the point).
@@ -87,11 +95,15 @@ unfoldable pub powerValue : ExponentPart → ℕ
 powerValue noExponent = exponentLimit
 powerValue (exponent sign ds) = pick (isMinus sign) (exponentLimit - valueOf ds) (exponentLimit + valueOf ds)
 
--- the number in normal form; digits all zero give zero, sign and exponent set aside; else 5 where e is outside its limits
+-- a numeral, with a minus before it or none: the number in normal form; digits all zero give zero, sign and exponent set aside; else 5
+-- where e is outside its limits
+abbrev pub numeralValue : Bool → NumeralParts → Answer Number
+numeralValue minus u =
+    scaledNumber 0 minus (valueOf (allDigitsOf u)) (powerValue (u .power)) (exponentLimit + length (fractionDigits (u .fraction)))
+
+-- the number of a text
 unfoldable pub textValue : TextParts → Answer Number
-textValue t =
-    scaledNumber 0 (isMinus (t .sign)) (valueOf (allDigitsOf t)) (powerValue (t .power))
-    (exponentLimit + length (fractionDigits (t .fraction)))
+textValue t = numeralValue (isMinus (t .sign)) (t .numeral)
 
 -- The longest beginning that has the form.
 
@@ -138,32 +150,56 @@ unfoldable pub powerIn : List ℕ → ExponentPart
 powerIn [] = noExponent
 powerIn (b ∷ bs) = pick (eqb b exponentByte) (powerOf (signIn bs) (digitsIn 2 (drop (signLength (signIn bs)) bs))) noExponent
 
+-- the numeral that bytes begin with; there may be no digit
+unfoldable pub numeralIn : List ℕ → NumeralParts
+numeralIn bytes =
+    let integer : List ℕ = digitsIn precision bytes in
+    let pointed : List ℕ = drop (length integer) bytes in
+    let fraction : PointPart = pointIn (precision - length integer) pointed in
+    let powered : List ℕ = drop (length (pointBytes fraction)) pointed in
+    record { integer = integer; fraction = fraction; power = powerIn powered }
+
 -- the parts that bytes begin with; there may be no digit
 unfoldable pub partsIn : List ℕ → TextParts
 partsIn bytes =
     let before : ℕ = blanksIn bytes in
     let signed : List ℕ = drop before bytes in
     let sign : Sign = signIn signed in
-    let digits : List ℕ = drop (signLength sign) signed in
-    let integer : List ℕ = digitsIn precision digits in
-    let pointed : List ℕ = drop (length integer) digits in
-    let fraction : PointPart = pointIn (precision - length integer) pointed in
-    let powered : List ℕ = drop (length (pointBytes fraction)) pointed in
-    let power : ExponentPart = powerIn powered in
-    let behind : ℕ = blanksIn (drop (length (powerBytes power)) powered) in
-    record { before = before; sign = sign; integer = integer; fraction = fraction; power = power; behind = behind }
+    let unsigned : List ℕ = drop (signLength sign) signed in
+    let numeral : NumeralParts = numeralIn unsigned in
+    let behind : ℕ = blanksIn (drop (length (numeralBytes numeral)) unsigned) in
+    record { before = before; sign = sign; numeral = numeral; behind = behind }
 
--- the length of the longest beginning that has the form, 0 if none
-unfoldable pub legalLength : List ℕ → ℕ
-legalLength bytes = pick (eqb (length (allDigitsOf (partsIn bytes))) 0) 0 (length (textBytes (partsIn bytes)))
+-- What bytes are read as: the longest beginning that has the form of a text number.
+pub record TextReading : Type 0 where
+  -- its length; 0 where there is none
+  pub used : ℕ
+  -- its number: 8 where there is none, 5 where e is outside its limits
+  pub number : Answer Number
 
--- the number of the longest beginning that has the form: 8 if there is none, 5 where e is outside its limits
-unfoldable pub beginningValue : List ℕ → Answer Number
-beginningValue bytes = pick (eqb (legalLength bytes) 0) (refused 8 0) (textValue (partsIn bytes))
+-- there is none
+abbrev pub noReading : TextReading
+noReading = record { used = 0; number = refused 8 0 }
+
+-- a text number with these parts
+abbrev pub readingOf : TextParts → TextReading
+readingOf t = record { used = length (textBytes t); number = textValue t }
+
+-- what bytes begin with, each part as long as it can be; no text number where there is no digit
+unfoldable pub readingIn : List ℕ → TextReading
+readingIn bytes = pick (eqb (length (allDigitsOf (partsIn bytes .numeral))) 0) noReading (readingOf (partsIn bytes))
+
+-- the code's answer
+abbrev pub readingMeaning : Reading → TextReading
+readingMeaning r = record { used = r .used; number = numberMeaning (r .number) }
+
+-- the legal length: that of the longest beginning that has the form, 0 if none
+abbrev pub legalLength : List ℕ → ℕ
+legalLength bytes = readingIn bytes .used
 
 -- a whole text: 8 where it has not the form, ahead of 5
 unfoldable pub convertText : List ℕ → Answer Number
-convertText bytes = pick (eqb (legalLength bytes) (length bytes)) (beginningValue bytes) (refused 8 0)
+convertText bytes = pick (eqb (legalLength bytes) (length bytes)) (readingIn bytes .number) (refused 8 0)
 
 -- texts read back: each by converting the whole of it
 unfoldable pub readTexts : List (List ℕ) → Answer (List Number)
@@ -201,7 +237,13 @@ pub record PowerFound (bytes : List ℕ) (up used : ℕ) : Type 0 where
   pub valued : up ≡ powerValue (powerIn bytes)
   pub spanned : used ≡ length (powerBytes (powerIn bytes))
 
--- the longest beginning that has the form: its length and its number
-pub record TextFound (bytes : List ℕ) (used : ℕ) (number : Answer Number) : Type 0 where
-  pub spanned : used ≡ legalLength bytes
-  pub valued : number ≡ beginningValue bytes
+-- the numeral that bytes begin with: how many digits it has and their value, how many stand behind the point, the exponent, the count of
+-- its bytes
+pub record NumeralFound (bytes : List ℕ) (n : Numeral) : Type 0 where
+  pub counted : n .count ≡ length (allDigitsOf (numeralIn bytes))
+  pub valued : n .value ≡ valueOf (allDigitsOf (numeralIn bytes))
+  pub few : n .places ≤ precision
+  pub placed : n .places ≡ length (fractionDigits (numeralIn bytes .fraction))
+  pub small : n .up ≤ 2 * exponentLimit
+  pub powered : n .up ≡ powerValue (numeralIn bytes .power)
+  pub spanned : n .used ≡ length (numeralBytes (numeralIn bytes))

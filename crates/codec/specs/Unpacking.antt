@@ -7,27 +7,20 @@ use lib.Dec.{ltb, leb, eqb}
 use Rattle.decimal.specs.declared.image.Sign.{Sign}
 use Rattle.decimal.specs.declared.image.Sign.the-variants.{Unsigned, Plus, Minus}
 use Rattle.decimal.specs.declared.image.Image.{Image}
+use Rattle.decimal.specs.declared.refusal.CheckAnswer.the-variants as checks
 use Rattle.decimal.specs.declared.number.Number.{Number}
 use Rattle.decimal.specs.Answer.{Answer, done, refused, _then_, pick}
 use Rattle.decimal.specs.Digits.{valueOf}
 use Rattle.decimal.specs.Number.{exponentLimit, zeroNumber}
 use Rattle.decimal.specs.Image.{hashes}
 use Rattle.decimal.specs.Truncation.{Truncated, numberOf}
-use Rattle.codec.specs.declared.unpacking.UnpackAnswer.the-variants as gives
 use Rattle.codec.specs.declared.unpacking.Unpacked.{Unpacked}
-use Rattle.codec.specs.Lists.{filled, anyOf}
+use Rattle.codec.specs.Lists.{filled, anyOf, maxColumns}
 use Rattle.codec.specs.declared.unpacking.Run.{Run}
 use Rattle.codec.specs.declared.unpacking.Run.the-variants as run
-use Rattle.codec.specs.Contents.{readAlone, maxColumns, signCount, exponentCount, halfCount, padCount, columnSize, bodySize, checkImages}
-
--- the half bytes of bytes, the high half first
-unfoldable pub halvesOf : List ℕ → List ℕ
-halvesOf [] = []
-halvesOf (b ∷ bs) = (b / 16) ∷ ((b % 16) ∷ halvesOf bs)
-
--- the worth of a packed byte: ten times its high half plus its low half, 255 where a half is above 9
-unfoldable pub worthOf : ℕ → ℕ
-worthOf b = pick (ltb (b / 16) 10 && ltb (b % 16) 10) (b / 16 * 10 + b % 16) 255
+use Rattle.codec.specs.Columns.{signCount, exponentCount, halfCount, padCount, columnSize, bodySize}
+use Rattle.codec.specs.Contents.{readAlone, checkImages}
+use Rattle.codec.specs.Halves.{halvesOf}
 
 -- whether all are decimal digits
 unfoldable pub allDigits : List ℕ → Bool
@@ -128,10 +121,10 @@ unpacking contents body = readAlone contents then λ table. unpackBody (table .i
 -- the code's answer, of each answer
 unfoldable pub unpackedOf : Answer (List Number) → Unpacked
 unpackedOf (done ns) =
-    record { answer = gives.Unpacks; numbers = record { values = filled maxColumns zeroNumber ns; count = length ns } }
+    record { answer = checks.Fine; numbers = record { values = filled maxColumns zeroNumber ns; count = length ns } }
 unpackedOf (refused number place) =
     record {
-      answer = gives.Refused (record { number = number; place = place });
+      answer = checks.Refused (record { number = number; place = place });
       numbers = record { values = filled maxColumns zeroNumber []; count = 0 };
     }
 

@@ -2,34 +2,19 @@
 use Prim.Native.Nat.{ℕ, zero, suc, _+_, _<_, _≤_}
 use mathlib.Core.Path.{_≡_}
 use mathlib.Core.List.{List, [], _∷_, _++_}
-use lib.ListN.{length, take, drop}
+use lib.ListN.{length, drop}
 use lib.Dec.{eqb}
 use denote.Ref.{now}
 use Rattle.decimal.specs.declared.number.Number.{Number}
 use Rattle.decimal.specs.Answer.{Answer, done, refused, pick}
-use Rattle.decimal.specs.Number.{zeroNumber, numberMeaning}
-use Rattle.codec.specs.declared.text.Reading.{Reading}
+use Rattle.decimal.specs.Number.{zeroNumber}
 use Rattle.codec.specs.declared.walking.Walker.{Walker}
 use Rattle.codec.specs.declared.walking.WalkAnswer.{WalkAnswer}
 use Rattle.codec.specs.declared.walking.WalkAnswer.the-variants as gives
 use Rattle.codec.specs.declared.walking.Walked.{Walked}
-use Rattle.codec.specs.Lists.{filled}
-use Rattle.codec.specs.Contents.{maxColumns}
+use Rattle.codec.specs.Lists.{filled, maxColumns}
 use Rattle.codec.specs.Alpha.{parted}
-use Rattle.codec.specs.Text.{legalLength, convertText, readTexts}
-
--- the next text number of bytes: the length of the longest beginning that has the form, and what that beginning converts to
-pub record Next : Type 0 where
-  pub used : ℕ
-  pub number : Answer Number
-
--- where there is none the length is 0, and no byte converts to 8
-unfoldable pub nextIn : List ℕ → Next
-nextIn bytes = record { used = legalLength bytes; number = convertText (take (legalLength bytes) bytes) }
-
--- the code's answer
-abbrev pub readingMeaning : Reading → Next
-readingMeaning r = record { used = r .used; number = numberMeaning (r .number) }
+use Rattle.codec.specs.Text.{readingIn, legalLength, readTexts}
 
 -- how many bytes stand before the first place where a text number begins: all of them where there is none
 unfoldable pub bytesBefore : List ℕ → ℕ
@@ -72,7 +57,7 @@ numbersIn zero index place bytes = stopped (stopBefore bytes) place
 numbersIn (suc left) index place bytes =
     pick (eqb (legalLength bytes) 0)
     (stopped (stopBefore bytes) place)
-    (withNumber index place (nextIn bytes .number)
+    (withNumber index place (readingIn bytes .number)
     (numbersIn left (suc index) (place + legalLength bytes) (drop (legalLength bytes) bytes)))
 
 -- all numbers of a text from a place on, up to 16
@@ -96,7 +81,7 @@ aheadOf w = drop (w .place) (now (w .text))
 
 -- behind the next text number
 abbrev pub movedOn : Walker → Walker
-movedOn w = record { text = w .text; place = w .place + nextIn (aheadOf w) .used }
+movedOn w = record { text = w .text; place = w .place + readingIn (aheadOf w) .used }
 
 -- at the next place where a text number begins
 abbrev pub skippedOn : Walker → Walker

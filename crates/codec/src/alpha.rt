@@ -5,25 +5,22 @@ ghost use Prim.Native.Nat.{_+_, _-_, _*_, _<_, _≤_};
 ghost use lib.Dec.{ltb};
 ghost use lib.ListN.{length, getD};
 ghost use Rattle.decimal.specs.Answer.{Answer, pick};
-ghost use Rattle.decimal.specs.Digits.{precision, digitsOf, valueOf};
+ghost use Rattle.decimal.specs.Digits.{precision, digitsOf, valueOf, packedOf, halvesIn};
 ghost use Rattle.decimal.specs.Number.{exponentLimit};
 ghost use Rattle.decimal.specs.Image.{plusByte, minusByte, hashes};
-ghost use Rattle.codec.specs.Lists.{storedIn};
-ghost use Rattle.codec.specs.Contents.{signCount};
-ghost use Rattle.codec.specs.Body.{sized, writeMeaning};
-ghost use Rattle.codec.specs.Alpha.{zeroByte, signText, exponentText, alphaText, convertingUnder, converting};
-ghost use Rattle.codec.specs.Body.{heldBy, Held};
-ghost use Rattle.codec.specs.Alpha.{fractionLength, exponentLength, tailText, tailLength, textLength};
-use crate::body::NO_ROOM;
-use crate::body::WriteAnswer;
-use crate::body::exponent_size;
-use crate::contents::sign_count;
+ghost use Rattle.codec.specs.Answers.{storedIn, sized, writeMeaning, written};
+ghost use Rattle.codec.specs.Columns.{signCount};
+ghost use Rattle.codec.specs.Alpha.{zeroByte, digitBytes, signText, fractionText, exponentText, alphaText, convertingUnder, converting, fractionLength, exponentLength, textLength, zeroAt};
+ghost use Rattle.codec.specs.Packing.{heldBy, Held};
+use crate::answers::NO_ROOM;
+use crate::answers::WriteAnswer;
+use crate::columns::sign_count;
+use crate::packing::exponent_size;
+use decimal::CheckAnswer;
 use decimal::EXPONENT_LIMIT;
-use decimal::FitAnswer;
 use decimal::Image;
 use decimal::ImageAnswer;
 use decimal::Number;
-use decimal::PRECISION;
 use decimal::Refusal;
 use decimal::Sign;
 use decimal::Truncation;
@@ -77,8 +74,8 @@ fn text_length(image: Image) -> usize
     ensures { λ r. ⌜ r ≡ textLength image ⌝ }
 {
     let sign = image.sign;
-    let tail = fraction_length(image.fraction) + exponent_length(image.exponential);
-    sign_count(sign) + (image.integer + tail)
+    let tail = fraction_length(image.fraction as usize) + exponent_length(image.exponential);
+    sign_count(sign) + (image.integer as usize + tail)
 }
 
 // The sign of the stored exponent.
@@ -88,63 +85,56 @@ fn exponent_sign(x: usize) -> u8
     if x < EXPONENT_LIMIT { b'-' } else { b'+' }
 }
 
-// Byte j of the exponent part: E, the sign of x, and two digits.
-fn exponent_byte(truncation: Truncation, j: usize) -> u8
-    requires { ⌜ (truncation .x ≤ 2 * exponentLimit) × (j < 4) ⌝ }
-    ensures { λ r. ⌜ r ≡ getD (exponentText true (heldBy truncation)) j 0 ⌝ }
+// Writes the digits that the last count half bytes of a run are, from a place of the buffer on.
+fn write_digits(run: u64, count: usize, buffer: &mut [u8], at: usize)
+    requires { ⌜ (count ≤ 16) × (at + count ≤ length (now buffer)) ⌝ }
+    ensures { λ r. ⌜ now (buffer .exit) ≡ written (now (buffer .entry)) at (digitBytes (halvesIn count run)) ⌝ }
 {
-    if j == 0 {
-        return b'E';
+    let mut k = 0;
+    while k < count {
+        buffer[at + k] = b'0' + ((run >> (4 * (count - 1 - k))) & 15) as u8;
+        k += 1;
     }
-    if j == 1 {
-        return exponent_sign(truncation.x);
-    }
-    let size = exponent_size(truncation.x);
-    if j == 2 {
-        return digit_byte(size / 10);
-    }
-    digit_byte(size % 10)
 }
 
-// Digit d of the n that an image shows.
-fn shown_digit(image: Image, truncation: Truncation, d: usize) -> u8
-    requires { ⌜ (Held image truncation) × (d < hashes image) ⌝ }
-    ensures { λ r. ⌜ r ≡ zeroByte + getD (digitsOf (hashes image) (valueOf (truncation .digits))) d 0 ⌝ }
+// Writes the sign byte of an image with a sign at the buffer's start, and gives the place behind it.
+fn write_sign(sign: Sign, negative: bool, buffer: &mut [u8]) -> usize
+    requires { ⌜ signCount sign ≤ length (now buffer) ⌝ }
+    ensures place { λ r. ⌜ r ≡ signCount sign ⌝ }
+    ensures bytes { λ r. ⌜ now (buffer .exit) ≡ written (now (buffer .entry)) 0 (signText sign negative) ⌝ }
 {
-    let digits = truncation.digits;
-    digit_byte(digits[PRECISION - (image.integer + image.fraction) + d])
+    let count = sign_count(sign);
+    if count == 0 {
+        return 0;
+    }
+    buffer[0] = sign_byte(sign, negative);
+    count
 }
 
-// Byte j of the part behind the digits before the point: the point, the other digits, then the exponent.
-fn tail_byte(image: Image, truncation: Truncation, j: usize) -> u8
-    requires { ⌜ (Held image truncation) × (j < tailLength image) ⌝ }
-    ensures { λ r. ⌜ r ≡ getD (tailText image (heldBy truncation)) j 0 ⌝ }
+// Writes the point and the digits behind it, where there are any, from a place of the buffer on, and gives the place behind them.
+fn write_fraction(halves: u64, fraction: usize, buffer: &mut [u8], at: usize) -> usize
+    requires { ⌜ (fraction ≤ precision) × (at + fractionLength fraction ≤ length (now buffer)) × (halves ≡ packedOf (digitsOf precision (valueOf (halvesIn precision halves)))) ⌝ }
+    ensures place { λ r. ⌜ r ≡ at + fractionLength fraction ⌝ }
+    ensures bytes { λ r. ⌜ now (buffer .exit) ≡ written (now (buffer .entry)) at (fractionText fraction (valueOf (halvesIn precision halves))) ⌝ }
 {
-    let before = fraction_length(image.fraction);
-    if before <= j {
-        return exponent_byte(truncation, j - before);
+    if fraction == 0 {
+        return at;
     }
-    if j == 0 {
-        return b'.';
-    }
-    shown_digit(image, truncation, image.integer + (j - 1))
+    buffer[at] = b'.';
+    write_digits(halves, fraction, &mut *buffer, at + 1);
+    at + (fraction + 1)
 }
 
-// Byte j of the text.
-fn text_byte(image: Image, truncation: Truncation, j: usize) -> u8
-    requires { ⌜ (Held image truncation) × (j < textLength image) ⌝ }
-    ensures { λ r. ⌜ r ≡ getD (alphaText image (heldBy truncation)) j 0 ⌝ }
+// Writes the exponent part, E, the sign of x and two digits, from a place of the buffer on.
+fn write_exponent(x: usize, buffer: &mut [u8], at: usize)
+    requires { ⌜ (x ≤ 2 * exponentLimit) × (at + 4 ≤ length (now buffer)) ⌝ }
+    ensures { λ r. ⌜ now (buffer .exit) ≡ written (now (buffer .entry)) at (exponentText true (zeroAt x)) ⌝ }
 {
-    let sign = image.sign;
-    let before = sign_count(sign);
-    if j < before {
-        return sign_byte(sign, truncation.negative);
-    }
-    let d = j - before;
-    if d < image.integer {
-        return shown_digit(image, truncation, d);
-    }
-    tail_byte(image, truncation, d - image.integer)
+    let size = exponent_size(x);
+    buffer[at] = b'E';
+    buffer[at + 1] = exponent_sign(x);
+    buffer[at + 2] = digit_byte(size / 10);
+    buffer[at + 3] = digit_byte(size % 10);
 }
 
 // Writes the text from the buffer's start on.
@@ -152,11 +142,15 @@ fn write_text(image: Image, truncation: Truncation, buffer: &mut [u8])
     requires { ⌜ (Held image truncation) × (textLength image ≤ length (now buffer)) ⌝ }
     ensures { λ r. ⌜ now (buffer .exit) ≡ storedIn (Answer.done (alphaText image (heldBy truncation))) (now (buffer .entry)) ⌝ }
 {
-    let length = text_length(image);
-    let mut j = 0;
-    while j < length {
-        buffer[j] = text_byte(image, truncation, j);
-        j += 1;
+    let sign = image.sign;
+    let halves = truncation.halves;
+    let integer = image.integer as usize;
+    let fraction = image.fraction as usize;
+    let start = write_sign(sign, truncation.negative, &mut *buffer);
+    write_digits(halves >> (4 * fraction), integer, &mut *buffer, start);
+    let end = write_fraction(halves, fraction, &mut *buffer, start + integer);
+    if image.exponential {
+        write_exponent(truncation.x, &mut *buffer, end);
     }
 }
 
@@ -168,7 +162,7 @@ pub fn write_alpha_under(image: Image, number: Number, buffer: &mut [u8]) -> Wri
 {
     let truncation = truncate(image, number, 0);
     let answer = truncation.answer;
-    if let FitAnswer::Refused(refusal) = answer {
+    if let CheckAnswer::Refused(refusal) = answer {
         return WriteAnswer::Refused(refusal);
     }
     let length = text_length(image);

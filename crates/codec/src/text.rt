@@ -15,7 +15,9 @@ ghost use Rattle.codec.specs.Text.{
   RunFound,
   FractionFound,
   PowerFound,
-  TextFound,
+  NumeralFound,
+  readingMeaning,
+  readingIn,
 };
 use decimal::EXPONENT_LIMIT;
 use decimal::Number;
@@ -36,6 +38,18 @@ pub struct Reading {
     pub number: NumberAnswer,
 }
 
+// The answer for what is no text number.
+const NO_NUMBER: NumberAnswer = NumberAnswer::Refused(Refusal {
+    number: NOT_TEXT,
+    place: 0,
+});
+
+// No text number: no byte is used.
+pub(crate) const NO_READING: Reading = Reading {
+    used: 0,
+    number: NO_NUMBER,
+};
+
 // Digits that were read, as a whole number, and how many they are.
 struct Run {
     value: u64,
@@ -55,8 +69,18 @@ struct Power {
     used: usize,
 }
 
+// Digits with at most one point and an optional exponent: how many digits, their whole number, how many stand behind the point, the
+// exponent plus EXPONENT_LIMIT, the bytes used.
+struct Numeral {
+    count: usize,
+    value: u64,
+    places: usize,
+    up: usize,
+    used: usize,
+}
+
 // How many blanks stand from a place on.
-fn blanks(text: &[u8], at: usize) -> usize
+pub(crate) fn blanks(text: &[u8], at: usize) -> usize
     requires { ⌜ at ≤ length (now text) ⌝ }
     ensures { λ r. ⌜ r ≡ blanksIn (drop at (now (text .entry))) ⌝ }
 {
@@ -203,34 +227,43 @@ fn power_at(text: &[u8], at: usize) -> Power
     }
 }
 
+// The numeral at a place, whatever stands before it; there may be no digit.
+fn numeral_at(text: &[u8], at: usize) -> Numeral
+    requires { ⌜ at ≤ length (now text) ⌝ }
+    ensures { λ r. ⌜ NumeralFound (drop at (now (text .entry))) r ⌝ }
+{
+    let integer = digit_run(text, at, PRECISION, 0);
+    let pointed = at + integer.count;
+    let fraction = fraction_at(text, pointed, PRECISION - integer.count, integer.value);
+    let powered = pointed + fraction.used;
+    let power = power_at(text, powered);
+    Numeral {
+        count: integer.count + fraction.count,
+        value: fraction.value,
+        places: fraction.count,
+        up: power.up,
+        used: integer.count + fraction.used + power.used,
+    }
+}
+
 // The longest beginning of a text that is a text number, and its number.
 pub(crate) fn read_text(text: &[u8]) -> Reading
-    ensures { λ r. ⌜ TextFound (now (text .entry)) (r .used) (numberMeaning (r .number)) ⌝ }
+    ensures { λ r. ⌜ readingMeaning r ≡ readingIn (now (text .entry)) ⌝ }
 {
     let before = blanks(text, 0);
     let sign = sign_at(text, before);
     let start = before + sign_length(sign);
-    let integer = digit_run(text, start, PRECISION, 0);
-    let pointed = start + integer.count;
-    let fraction = fraction_at(text, pointed, PRECISION - integer.count, integer.value);
-    if integer.count + fraction.count == 0 {
-        return Reading {
-            used: 0,
-            number: NumberAnswer::Refused(Refusal {
-                number: NOT_TEXT,
-                place: 0,
-            }),
-        };
+    let numeral = numeral_at(text, start);
+    if numeral.count == 0 {
+        return NO_READING;
     }
-    let powered = pointed + fraction.used;
-    let power = power_at(text, powered);
-    let end = powered + power.used;
+    let end = start + numeral.used;
     let used = end + blanks(text, end);
-    let up = power.up as u16;
-    let down = (EXPONENT_LIMIT + fraction.count) as u16;
+    let up = numeral.up as u16;
+    let down = (EXPONENT_LIMIT + numeral.places) as u16;
     Reading {
         used,
-        number: Number::from_scaled(is_minus(sign), fraction.value, up, down, 0),
+        number: Number::from_scaled(is_minus(sign), numeral.value, up, down, 0),
     }
 }
 
@@ -250,8 +283,5 @@ pub fn convert(text: &[u8]) -> NumberAnswer
     if reading.used == text.len() {
         return reading.number;
     }
-    NumberAnswer::Refused(Refusal {
-        number: NOT_TEXT,
-        place: 0,
-    })
+    NO_NUMBER
 }

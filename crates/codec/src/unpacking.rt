@@ -2,45 +2,45 @@
 ghost use mathlib.Core.Path.{_≡_};
 ghost use Prim.Native.Nat.{_+_, _-_, _*_, _/_, _%_, _^_, _<_, _≤_};
 ghost use lib.Dec.{ltb};
-ghost use lib.ListN.{length, take, drop};
+ghost use lib.ListN.{length, drop};
 ghost use Rattle.decimal.specs.Answer.{Answer, pick};
 ghost use Rattle.decimal.specs.Digits.{precision};
 ghost use Rattle.decimal.specs.Image.{hashes};
 ghost use Rattle.decimal.specs.Number.{exponentLimit, numberMeaning};
-ghost use Rattle.codec.specs.Contents.{maxColumns, columnSize, bodySize, Checked, AllChecked, imageList};
-ghost use Rattle.codec.specs.Unpacking.{halvesOf, belowBit, breaksRules, partsNumber, unpackColumn, unpackColumns, unpackUnder, unpacking, unpackedOf, runLimit, readOn, runMeaning, firstHalf, unpaddedNumber, runNumber};
-use crate::body::Numbers;
-use crate::contents::COLUMNS;
-use crate::contents::CUT_SHORT;
-use crate::contents::ContentsAnswer;
+ghost use Rattle.codec.specs.Lists.{imageList};
+ghost use Rattle.codec.specs.Columns.{columnSize, Checked};
+ghost use Rattle.codec.specs.Halves.{halvesOf};
+ghost use Rattle.codec.specs.Worths.{IsWorths};
+ghost use Rattle.codec.specs.Unpacking.{belowBit, breaksRules, partsNumber, unpackColumn, unpackUnder, unpacking, unpackedOf, runLimit, readOn, runMeaning, firstHalf, unpaddedNumber, runNumber};
+use crate::answers::WRONG_LENGTH;
+use crate::columns::column_size;
+use crate::columns::half_count;
+use crate::columns::hash_count;
+use crate::columns::sign_count;
 use crate::contents::body_size;
 use crate::contents::check_images;
-use crate::contents::column_size;
-use crate::contents::half_count;
 use crate::contents::read_alone;
-use crate::contents::sign_count;
+use crate::halves::high_half;
+use crate::halves::low_half;
+use crate::lists::COLUMNS;
+use crate::lists::Images;
+use crate::lists::Numbers;
 use crate::worths::NO_WORTH;
-use crate::worths::worth;
+use crate::worths::WORTHS;
+use decimal::CheckAnswer;
 use decimal::EXPONENT_LIMIT;
-use decimal::FitAnswer;
 use decimal::Image;
 use decimal::Number;
 use decimal::NumberAnswer;
-use decimal::POWERS;
 use decimal::Refusal;
+use decimal::power_of_ten;
 
 // Refusal 7: a half byte outside the rules.
 pub const BAD_HALF: u8 = 7;
 
-// Whether a body was read, or why not.
-pub enum UnpackAnswer {
-    Unpacks,
-    Refused(Refusal),
-}
-
 // The numbers of a body. Where the answer is a refusal the list is empty.
 pub struct Unpacked {
-    pub answer: UnpackAnswer,
+    pub answer: CheckAnswer,
     pub numbers: Numbers,
 }
 
@@ -60,29 +60,15 @@ fn bad_half(column: usize) -> NumberAnswer
     })
 }
 
-// The high half of a byte.
-fn high_half(byte: u8) -> u8
-    ensures { λ r. ⌜ r ≡ byte / 16 ⌝ }
-{
-    byte >> 4
-}
-
-// The low half of a byte.
-fn low_half(byte: u8) -> u8
-    ensures { λ r. ⌜ r ≡ byte % 16 ⌝ }
-{
-    byte & 15
-}
-
 // The bytes from a place on, two digits each, behind a value already read.
-fn read_pairs(bytes: &[u8], from: usize, start: u64) -> Run
-    requires { ⌜ (from ≤ length (now bytes)) × (length (now bytes) ≤ 9) × (start < 10) ⌝ }
+fn read_pairs(bytes: &[u8], from: usize, start: u64, worths: &[u8; 256]) -> Run
+    requires { ⌜ (from ≤ length (now bytes)) × (length (now bytes) ≤ 9) × (start < 10) × IsWorths (now worths) ⌝ }
     ensures { λ r. ⌜ runMeaning r ≡ readOn start (halvesOf (drop from (now (bytes .entry)))) ⌝ }
 {
     let mut value = start;
     let mut i = from;
     while i < bytes.len() {
-        let two = worth(bytes[i]);
+        let two = worths[bytes[i] as usize];
         if two == NO_WORTH {
             return Run::Bad;
         }
@@ -93,18 +79,18 @@ fn read_pairs(bytes: &[u8], from: usize, start: u64) -> Run
 }
 
 // All halves of a column behind its sign half, which are digits.
-fn read_run(bytes: &[u8], signs: usize) -> Run
-    requires { ⌜ (0 < length (now bytes)) × (length (now bytes) ≤ 9) × (signs ≤ 1) ⌝ }
+fn read_run(bytes: &[u8], signs: usize, worths: &[u8; 256]) -> Run
+    requires { ⌜ (0 < length (now bytes)) × (length (now bytes) ≤ 9) × (signs ≤ 1) × IsWorths (now worths) ⌝ }
     ensures { λ r. ⌜ runMeaning r ≡ readOn 0 (drop signs (halvesOf (now (bytes .entry)))) ⌝ }
 {
     if signs == 0 {
-        return read_pairs(bytes, 0, 0);
+        return read_pairs(bytes, 0, 0, worths);
     }
     let first = low_half(bytes[0]);
     if 9 < first {
         return Run::Bad;
     }
-    read_pairs(bytes, 1, first as u64)
+    read_pairs(bytes, 1, first as u64, worths)
 }
 
 // The sign half of a column, 0 where it has none.
@@ -123,7 +109,7 @@ fn begins_with_zero(image: Image, whole: u64) -> bool
     requires { ⌜ (hashes image ≤ precision) × (whole < runLimit) ⌝ }
     ensures { λ r. ⌜ r ≡ ltb (whole * 10) (10 ^ hashes image) ⌝ }
 {
-    whole * 10 < POWERS[image.integer + image.fraction]
+    whole * 10 < power_of_ten(hash_count(image))
 }
 
 // Whether a sign half, the digits as a whole number, and |x| break a rule under an image.
@@ -174,7 +160,7 @@ fn parts_number(image: Image, sign: u8, whole: u64, size: usize, column: usize) 
         return bad_half(column);
     }
     let up = signed_exponent(sign, size) as u16;
-    let down = (EXPONENT_LIMIT + image.fraction) as u16;
+    let down = (EXPONENT_LIMIT + image.fraction as usize) as u16;
     match Number::from_scaled(sign & 7 == 1, whole, up, down, column) {
         NumberAnswer::Number(number) => NumberAnswer::Number(number),
         NumberAnswer::Refused(_) => bad_half(column),
@@ -207,13 +193,13 @@ fn run_number(image: Image, sign: u8, value: u64, column: usize) -> NumberAnswer
 }
 
 // The number of a column's bytes; refused with 7 and the column.
-fn unpack_column(image: Image, bytes: &[u8], column: usize) -> NumberAnswer
-    requires { ⌜ Checked image × (length (now bytes) ≡ columnSize image) ⌝ }
+fn unpack_column(image: Image, bytes: &[u8], column: usize, worths: &[u8; 256]) -> NumberAnswer
+    requires { ⌜ Checked image × (length (now bytes) ≡ columnSize image) × IsWorths (now worths) ⌝ }
     ensures { λ r. ⌜ numberMeaning r ≡ unpackColumn column image (now (bytes .entry)) ⌝ }
 {
     let sign = image.sign;
     let signs = sign_count(sign);
-    match read_run(bytes, signs) {
+    match read_run(bytes, signs, worths) {
         Run::Bad => bad_half(column),
         Run::Value(value) => {
             let half = column_sign(bytes, signs);
@@ -227,7 +213,7 @@ fn refused(number: u8, place: usize) -> Unpacked
     ensures { λ r. ⌜ r ≡ unpackedOf (Answer.refused number place) ⌝ }
 {
     Unpacked {
-        answer: UnpackAnswer::Refused(Refusal { number, place }),
+        answer: CheckAnswer::Refused(Refusal { number, place }),
         numbers: Numbers {
             values: [Number::ZERO; COLUMNS],
             count: 0,
@@ -235,18 +221,26 @@ fn refused(number: u8, place: usize) -> Unpacked
     }
 }
 
-// The numbers of a body's columns, from the left; refused with 7 and the column.
-fn unpack_columns(images: [Image; COLUMNS], count: usize, body: &[u8]) -> Unpacked
-    requires { ⌜ (length images ≡ maxColumns) × (count ≤ maxColumns) × AllChecked (take count images) × (length (now body) ≡ bodySize (take count images)) ⌝ }
-    ensures { λ r. ⌜ r ≡ unpackedOf (unpackColumns 0 (take count images) (now (body .entry))) ⌝ }
+// The numbers of a body under images.
+// Refused as the images are, then with 11 for a body of another length, then from the left with 7 and the column.
+pub fn unpack_under(images: Images, body: &[u8]) -> Unpacked
+    ensures { λ r. ⌜ r ≡ unpackedOf (unpackUnder (imageList images) (now (body .entry))) ⌝ }
 {
+    if let CheckAnswer::Refused(refusal) = check_images(images) {
+        return refused(refusal.number, refusal.place);
+    }
+    if body.len() != body_size(images) {
+        return refused(WRONG_LENGTH, 0);
+    }
+    let worths = WORTHS;
+    let count = images.count;
     let mut values = [Number::ZERO; COLUMNS];
     let mut at = 0;
     let mut column = 0;
     while column < count {
-        let image = images[column];
+        let image = images.values[column];
         let end = at + column_size(image);
-        match unpack_column(image, &body[at..end], column) {
+        match unpack_column(image, &body[at..end], column, &worths) {
             NumberAnswer::Refused(refusal) => return refused(refusal.number, refusal.place),
             NumberAnswer::Number(number) => {
                 values[column] = number;
@@ -256,23 +250,9 @@ fn unpack_columns(images: [Image; COLUMNS], count: usize, body: &[u8]) -> Unpack
         column += 1;
     }
     Unpacked {
-        answer: UnpackAnswer::Unpacks,
+        answer: CheckAnswer::Fine,
         numbers: Numbers { values, count },
     }
-}
-
-// The numbers of a body under images.
-// Refused as the images are, then with 11 for a body of another length, then from the left with 7 and the column.
-pub fn unpack_under(images: [Image; COLUMNS], count: usize, body: &[u8]) -> Unpacked
-    ensures { λ r. ⌜ r ≡ unpackedOf (unpackUnder (imageList images count) (now (body .entry))) ⌝ }
-{
-    if let FitAnswer::Refused(refusal) = check_images(images, count) {
-        return refused(refusal.number, refusal.place);
-    }
-    if body.len() != body_size(images, count) {
-        return refused(CUT_SHORT, 0);
-    }
-    unpack_columns(images, count, body)
 }
 
 // The numbers of a body under a contents lent alone, as unpack_under gives them; refused first as the contents is.
@@ -281,9 +261,9 @@ pub fn unpack(contents: &[u8], body: &[u8]) -> Unpacked
 {
     let table = read_alone(contents);
     let answer = table.answer;
-    if let ContentsAnswer::Refused(refusal) = answer {
+    if let CheckAnswer::Refused(refusal) = answer {
         return refused(refusal.number, refusal.place);
     }
     let images = table.images;
-    unpack_under(images, table.count, body)
+    unpack_under(images, body)
 }

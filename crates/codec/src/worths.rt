@@ -1,12 +1,10 @@
 // The worth of each value of a packed byte.
-ghost use mathlib.Core.Path.{_≡_};
-ghost use Rattle.codec.specs.Unpacking.{worthOf};
 
 // The worth of a byte that has a half above 9.
 pub(crate) const NO_WORTH: u8 = 255;
 
 // Ten times the high half plus the low half, for each byte.
-const WORTHS: [u8; 256] = [
+pub(crate) const WORTHS: [u8; 256] = [
     0,
     1,
     2,
@@ -264,10 +262,3 @@ const WORTHS: [u8; 256] = [
     255,
     255,
 ];
-
-// The worth of a packed byte.
-pub(crate) fn worth(byte: u8) -> u8
-    ensures { λ r. ⌜ r ≡ worthOf byte ⌝ }
-{
-    WORTHS[byte as usize]
-}

@@ -5,7 +5,7 @@ use mathlib.Core.Logic.{_⊎_, inl, inr, ⊎-elim}
 use mathlib.Core.List.{List, [], _∷_, _++_}
 use mathlib.Core.Bool.{Bool, true, false}
 use Prim.Native.Nat.{ℕ, zero, suc, _+_, _*_, _/_, _%_, _^_, _<_, _≤_}
-use native.Mathlib.Nat.{suc-inj, mul-comm, zero-add, suc-add, zero-div, div-one, mod-one, mod-lt, mod-mod, mod-eq-of-lt, div-eq-of-lt, div-div-eq-div-mul, eq-or-lt-of-le}
+use native.Mathlib.Nat.{suc-inj, mul-comm, mul-assoc, zero-add, suc-add, zero-div, div-one, mod-one, mod-lt, mod-mod, mod-eq-of-lt, div-eq-of-lt, div-div-eq-div-mul, eq-or-lt-of-le}
 use native.Mathlib.Numerals.{suc-eq-add-one}
 use native.Mathlib.Omega.{arith, sub-cases}
 use borrow.Author.Tests.{lt-ltb, le-ltb, eqb-true, eqb-false}
@@ -15,7 +15,7 @@ use lib.ListN.{length, take, getD, length-append}
 use lib.Seq.{take-at}
 use Rattle.decimal.specs.Answer.{pick}
 use Rattle.decimal.specs.Digits.{digitsOf, valueOf, zeros, leadingZeros, Digits, comesBefore}
-use Rattle.decimal.proofs.PowerLaws.{pow10-pos, pow10-add, pow10-suc, times-ten, times-power}
+use Rattle.decimal.proofs.PowerLaws.{pow10-pos, pow10-add, pow10-suc, pow10-mono, times-ten, times-power}
 
 -- of two numbers the first is at most the second, or above it
 pub le-or-lt : (a b : ℕ) → (a ≤ b) ⊎ (b < a)
@@ -59,13 +59,26 @@ leading-top n k pos below = leading-fills n k pos below .1
 pub leading-low : (n k : ℕ) → 0 < k → k < 10 ^ suc n → 10 ^ n ≤ k * 10 ^ leadingZeros (suc n) k
 leading-low n k pos below = leading-fills n k pos below .0
 
--- ten times the number has one zero less before it
-pub leading-step : (n k : ℕ) → 0 < k → k < 10 ^ n → leadingZeros (suc n) k ≡ suc (leadingZeros (suc n) (k * 10))
-leading-step n k pos below =
-    let z = leadingZeros (suc n) (k * 10) in
-    let fills = leading-fills n (k * 10) (omega arith) (omega arith) in
-    let e = times-ten k z in
-    leading-unique n k (suc z) (omega arith) (omega arith)
+-- the number with j tens put to it has j zeros less before it
+pub leading-shift : (n j k : ℕ) → 0 < k → k * 10 ^ j < 10 ^ suc n → leadingZeros (suc n) k ≡ j + leadingZeros (suc n) (k * 10 ^ j)
+leading-shift n j k pos below =
+    let z = leadingZeros (suc n) (k * 10 ^ j) in
+    let fills = leading-fills n (k * 10 ^ j) (omega (arith, times-power k j)) below in
+    let tens : k * 10 ^ j * 10 ^ z ≡ k * 10 ^ (j + z) = mul-assoc k (10 ^ j) (10 ^ z) ∙ ap (λ (p : ℕ). k * p) (sym (pow10-add j z)) in
+    leading-unique n k (j + z) (omega arith) (omega arith)
+
+-- a number that fills more than i digits has fewer zeros before it than the others are
+pub leading-fewer : (n i k : ℕ) → 10 ^ i ≤ k → i < n → leadingZeros n k + i < n
+leading-fewer zero i k fills h = absurd (omega arith)
+leading-fewer (suc n) i k fills h =
+    ⊎-elim
+    (λ g. omega (arith, leading-none n k g))
+    (λ g.
+    ⊎-elim
+    (λ l. absurd (omega (arith, pow10-mono l)))
+    (λ l. omega (arith, leading-more n k g, leading-fewer n i k fills l))
+    (le-or-lt n i))
+    (le-or-lt (10 ^ n) k)
 
 -- n digits are n
 pub digits-length : (n k : ℕ) → length (digitsOf n k) ≡ n

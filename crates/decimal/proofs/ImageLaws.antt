@@ -15,16 +15,21 @@ use Rattle.decimal.specs.declared.image.Sign.{Sign}
 use Rattle.decimal.specs.declared.image.Sign.the-variants.{Unsigned, Plus, Minus}
 use Rattle.decimal.specs.declared.image.Image.{Image}
 use Rattle.decimal.specs.declared.image.Scan.{Scan}
-use Rattle.decimal.specs.declared.image.State.{State}
-use Rattle.decimal.specs.declared.image.State.the-variants.{Start, Signed, Integer, Comma, Point, Fraction, Up, Stopped}
-use Rattle.decimal.specs.Answer.{done, refused}
+use Rattle.decimal.specs.Answer.{Answer, done, refused}
 use Rattle.decimal.specs.Digits.{precision}
-use Rattle.decimal.specs.Image.{plusByte, minusByte, hashByte, pointByte, ups}
+use Rattle.decimal.specs.Image.{State, Start, Signed, Integer, Comma, Point, Fraction, Up, Stopped, stateOf}
+use Rattle.decimal.specs.Image.{plusByte, minusByte, hashByte, pointByte}
 use Rattle.decimal.specs.Image.{signBytes, times, fractionBytes, upBytes, imageBytes, hashes, IsImage}
-use Rattle.decimal.specs.Image.{afterUp, nextState, runState, isImage, isExponential, integerHash, fractionHash, counted, integersFrom, fractionsFrom}
-use Rattle.decimal.specs.Image.{signOf, leadingSign, checkImage, scannedImage, scanOf, readImage, ReadsAs, within, tooMany, noImage}
+use Rattle.decimal.specs.Image.{nextState, runState, isImage, isExponential, integerHash, fractionHash, counted, integersFrom, fractionsFrom}
+use Rattle.decimal.specs.Image.{signOf, leadingSign, checkImage, scannedImage, Scanned, readImage, ReadsAs, within, tooMany, noImage}
 use Rattle.decimal.proofs.AnswerLaws.{never, one-answer}
 use Rattle.decimal.proofs.ImageTails.{key, some-image}
+
+-- n times a byte are n bytes
+pub times-length : (n b : ℕ) → length (times n b) ≡ n
+unfolding times
+times-length zero b = refl
+times-length (suc n) b = ap suc (times-length n b)
 
 -- An image runs to its counts.
 
@@ -207,28 +212,6 @@ read-done place bytes im e = go (reads-exactly place bytes)
     go (tooMany j r h q) = never q e
     go (noImage n q) = never q e
 
--- The code's tables, where a test picks the case.
-
--- an Up below four counts on
-pub up-below : {s : State} {n : ℕ} → s ≡ Up n → n < ups → Up (n + 1) ≡ afterUp s
-up-below {s} {n} e h = sym (ap afterUp e ∙ rw (lt-ltb n ups h))
-
--- and stops there
-pub up-full : {s : State} {n : ℕ} → s ≡ Up n → ups ≤ n → Stopped ≡ afterUp s
-up-full {s} {n} e h = sym (ap afterUp e ∙ rw (le-ltb n ups h))
-
--- the first byte says the sign
-pub leads : (bytes : List ℕ) → 0 < length bytes → leadingSign bytes ≡ signOf (getD bytes 0 0)
-unfolding leadingSign
-leads [] h = absurd (omega arith)
-leads (b ∷ bs) h = refl
-
--- no byte, no sign
-pub leads-none : (bytes : List ℕ) → length bytes ≡ 0 → leadingSign bytes ≡ Unsigned
-unfolding leadingSign
-leads-none [] h = refl
-leads-none (b ∷ bs) h = absurd (omega arith)
-
 -- a byte that is no sign
 pub unsigned : (b : ℕ) → (b ≡ plusByte → ⊥) → (b ≡ minusByte → ⊥) → signOf b ≡ Unsigned
 unsigned b p m = rw (ne-eqb b plusByte p, ne-eqb b minusByte m)
@@ -248,7 +231,7 @@ pub reading-starts : (bytes : List ℕ) → Reading bytes Start 0 0 0
 reading-starts bytes = record { inside = omega arith; few = omega arith; ends = refl; integers = omega arith; fractions = omega arith }
 
 -- what a # adds
-count-one : (t : Bool) (n c r : ℕ) → r ≡ counted t 0 → (n + r) + c ≡ n + counted t c
+pub count-one : (t : Bool) (n c r : ℕ) → r ≡ counted t 0 → (n + r) + c ≡ n + counted t c
 count-one true n c r e = omega arith
 count-one false n c r e = omega arith
 
@@ -288,37 +271,60 @@ reading-turns {bytes} {s} {t} {before} {behind} {n} {i} {f} r h e p q =
           ∙ r .fractions;
     }
 
--- the state and the counts are those of all the bytes
-pub record WasRead (bytes : List ℕ) (state : State) (before behind : ℕ) : Type 0 where
-  pub ended : runState Start bytes ≡ state
-  pub all-integers : integersFrom Start bytes ≡ before
-  pub all-fractions : fractionsFrom Start bytes ≡ behind
-
 -- behind the last byte
-pub reading-ends : {bytes : List ℕ} {s : State} {before behind n : ℕ} → Reading bytes s before behind n → length bytes ≤ n
-    → WasRead bytes s before behind
+pub reading-ends : {bytes : List ℕ} {scan : Scan} {n : ℕ} → Reading bytes (stateOf (scan .state)) (scan .integer) (scan .fraction) n
+    → length bytes ≤ n → Scanned bytes scan
 unfolding runState integersFrom fractionsFrom
-reading-ends {bytes} {s} {before} {behind} {n} r h =
+reading-ends {bytes} {scan} {n} r h =
+    let s = stateOf (scan .state) in
     let none : drop n bytes ≡ [] = drop-of-length-le bytes h in
     record {
-      ended = sym (r .ends) ∙ ap (runState s) none;
-      all-integers = sym (r .integers) ∙ ap (λ (l : List ℕ). before + integersFrom s l) none ∙ omega arith;
-      all-fractions = sym (r .fractions) ∙ ap (λ (l : List ℕ). behind + fractionsFrom s l) none ∙ omega arith;
+      ended = sym (ap (runState s) none) ∙ r .ends;
+      integers = sym (ap (λ (l : List ℕ). scan .integer + integersFrom s l) none ∙ omega arith) ∙ r .integers;
+      fractions = sym (ap (λ (l : List ℕ). scan .fraction + fractionsFrom s l) none ∙ omega arith) ∙ r .fractions;
     }
 
--- the parts that the code finds make the scan
-pub scans : {bytes : List ℕ} {s : State} {before behind : ℕ} {sign : Sign} {kind : Bool} → WasRead bytes s before behind
-    → sign ≡ leadingSign bytes → kind ≡ isExponential s
-    → _≡_ {A = Scan} (record { state = s; image = record { sign = sign; integer = before; fraction = behind; exponential = kind } }) (scanOf bytes)
-unfolding scannedImage
-scans w p q =
-    λ k.
-    record {
-      state = sym (w .ended) k;
-      image = record {
-        sign = p k;
-        integer = sym (w .all-integers) k;
-        fraction = sym (w .all-fractions) k;
-        exponential = (q ∙ sym (ap isExponential (w .ended))) k;
-      };
-    }
+-- What the reader makes of a scan.
+
+-- bytes that are accepted are at least one
+pub accepted-some : (bytes : List ℕ) → isImage (runState Start bytes) ≡ true → 0 < length bytes
+unfolding runState
+accepted-some [] h = absurd (false≢true h)
+accepted-some (b ∷ bs) h = omega arith
+
+-- the first of them says the sign
+pub first-sign : (bytes : List ℕ) → 0 < length bytes → signOf (getD bytes 0 0) ≡ leadingSign bytes
+unfolding leadingSign
+first-sign [] h = absurd (omega arith)
+first-sign (b ∷ bs) h = refl
+
+module _ {bytes : List ℕ} {scan : Scan} (s : Scanned bytes scan) where
+  -- where the last state is an image's, the bytes are accepted
+  pub scan-accepted : {t : Bool} → isImage (stateOf (scan .state)) ≡ t → isImage (runState Start bytes) ≡ t
+  scan-accepted h = sym (ap isImage (s .ended)) ∙ h
+
+  -- and with more than precision # signs they are refused with 2
+  pub scan-many : (place : ℕ) → isImage (stateOf (scan .state)) ≡ true → precision < scan .integer + scan .fraction
+      → readImage place bytes ≡ refused 2 place
+  unfolding scannedImage
+  scan-many place h many =
+      reads-too-many place (scanned-sound bytes (scan-accepted h)) (omega (arith, s .integers, s .fractions))
+
+  -- with no more they are the image of the first byte's sign, the counts and the kind
+  pub scan-image : (place : ℕ) {sign : Sign} {kind : Bool} → isImage (stateOf (scan .state)) ≡ true
+      → scan .integer + scan .fraction ≤ precision
+      → sign ≡ signOf (getD bytes 0 0)
+      → kind ≡ isExponential (stateOf (scan .state))
+      → readImage place bytes ≡ done (record { sign = sign; integer = scan .integer; fraction = scan .fraction; exponential = kind })
+  unfolding scannedImage
+  scan-image place {sign} {kind} h few p q =
+      let accepted = scan-accepted h in
+      let same : scannedImage bytes ≡ record { sign = sign; integer = scan .integer; fraction = scan .fraction; exponential = kind } =
+      λ k.
+      record {
+        sign = sym (p ∙ first-sign bytes (accepted-some bytes accepted)) k;
+        integer = sym (s .integers) k;
+        fraction = sym (s .fractions) k;
+        exponential = sym (q ∙ ap isExponential (s .ended)) k;
+      } in
+      reads-image place (scanned-sound bytes accepted) (omega (arith, s .integers, s .fractions)) ∙ ap {B = Answer Image} done same

@@ -11,9 +11,8 @@ use borrow.Author.Tests.{eqb-true, ltb-true}
 use Rattle.decimal.specs.declared.image.Sign.{Sign}
 use Rattle.decimal.specs.declared.image.Sign.the-variants.{Unsigned, Plus, Minus}
 use Rattle.decimal.specs.declared.image.Image.{Image}
-use Rattle.decimal.specs.declared.image.State.{State}
-use Rattle.decimal.specs.declared.image.State.the-variants.{Start, Signed, Integer, Comma, Point, Fraction, Up, Stopped}
 use Rattle.decimal.specs.Answer.{pick}
+use Rattle.decimal.specs.Image.{State, Start, Signed, Integer, Comma, Point, Fraction, Up, Stopped}
 use Rattle.decimal.specs.Image.{plusByte, minusByte, hashByte, pointByte, commaByte, upByte, ups}
 use Rattle.decimal.specs.Image.{signBytes, times, fractionBytes, upBytes, imageBytes, IsImage, nextState, runState, isImage}
 
@@ -51,6 +50,66 @@ view b =
   where
     orElse : (k : ℕ) → ByteView k → (eqb b k ≡ false → ByteView b) → ByteView b
     orElse k v f = ⊎-elim (λ e. subst⁻¹ ByteView e v) f (key b k)
+
+-- The state in which no field begins, and the 5E bytes, for each test of states that accepts after four 5E bytes and not there.
+
+-- no byte leads out of the state in which no field begins
+stopped-view : {b : ℕ} → ByteView b → nextState Stopped b ≡ Stopped
+unfolding nextState
+stopped-view isPlus = refl
+stopped-view isMinus = refl
+stopped-view isHash = refl
+stopped-view isPoint = refl
+stopped-view isComma = refl
+stopped-view isUp = refl
+stopped-view (isOther e) = e Stopped
+
+-- the same of each byte
+pub stopped-stays : (b : ℕ) → nextState Stopped b ≡ Stopped
+stopped-stays b = stopped-view (view b)
+
+-- nor do bytes
+stopped-runs : (bs : List ℕ) → runState Stopped bs ≡ Stopped
+unfolding runState
+stopped-runs [] = refl
+stopped-runs (b ∷ bs) = rw (stopped-stays b, stopped-runs bs)
+
+module _ (accepts : State → Bool) (stopped-not : accepts Stopped ≡ false) where
+  -- where the machine stopped nothing is accepted
+  pub stopped-rejects : {A : Type 0} (bs : List ℕ) → accepts (runState Stopped bs) ≡ true → A
+  stopped-rejects bs h = absurd (false≢true (sym (ap accepts (stopped-runs bs) ∙ stopped-not) ∙ h))
+
+  module _ (four : (n : ℕ) → accepts (Up n) ≡ eqb n ups) where
+    -- behind n of the 5E bytes stand the others
+    abbrev UpTail : ℕ → List ℕ → Type 0
+    UpTail n bs = accepts (runState (Up n) bs) ≡ true → bs ≡ times (ups - n) upByte
+
+    -- one 5E byte, which counts on below four
+    up-step : (n : ℕ) (bs : List ℕ) → ((m : ℕ) → UpTail m bs) → (t : Bool) → ltb n ups ≡ t
+        → accepts (runState (pick t (Up (n + 1)) Stopped) bs) ≡ true → upByte ∷ bs ≡ times (ups - n) upByte
+    unfolding times
+    up-step n bs ih true e h =
+        let l : n < ups = ltb-true n ups e in
+        let m : suc (ups - (n + 1)) ≡ ups - n = omega arith in
+        ap (λ (l : List ℕ). upByte ∷ l) (ih (n + 1) h) ∙ ap (λ (k : ℕ). times k upByte) m
+    up-step n bs ih false e h = stopped-rejects bs h
+
+    -- one byte behind 5E bytes
+    up-byte : (n : ℕ) {b : ℕ} (bs : List ℕ) → ((m : ℕ) → UpTail m bs) → ByteView b → UpTail n (b ∷ bs)
+    unfolding runState nextState
+    up-byte n bs ih isPlus h = stopped-rejects bs h
+    up-byte n bs ih isMinus h = stopped-rejects bs h
+    up-byte n bs ih isHash h = stopped-rejects bs h
+    up-byte n bs ih isPoint h = stopped-rejects bs h
+    up-byte n bs ih isComma h = stopped-rejects bs h
+    up-byte n bs ih isUp h = up-step n bs ih (ltb n ups) refl h
+    up-byte n bs ih (isOther e) h = stopped-rejects bs (subst (λ (s : State). accepts (runState s bs) ≡ true) (e (Up n)) h)
+
+    -- all bytes behind 5E bytes
+    pub ups-behind : (n : ℕ) (bs : List ℕ) → UpTail n bs
+    unfolding runState times
+    ups-behind n [] h = ap (λ (k : ℕ). times (ups - k) upByte) (sym (eqb-true n ups (sym (four n) ∙ h)))
+    ups-behind n (b ∷ bs) h = up-byte n bs (λ m. ups-behind m bs) (view b) h
 
 -- The states from which no image is reached: a comma was read, or the bytes begin no field.
 
@@ -110,38 +169,14 @@ dead-none d (b ∷ bs) h = dead-none (dead-step (view b) d) bs h
 
 -- the machine stopped, so that there is no image
 halted : {A : Type 0} (bs : List ℕ) → isImage (runState Stopped bs) ≡ true → A
-halted bs h = absurd (dead-none stopped bs h)
+halted bs h = stopped-rejects isImage refl bs h
 
 halted-by : {A : Type 0} {s : State} (bs : List ℕ) → s ≡ Stopped → isImage (runState s bs) ≡ true → A
 halted-by bs e h = halted bs (subst (λ (s : State). isImage (runState s bs) ≡ true) e h)
 
 -- behind n of the 5E bytes stand the others
-abbrev UpTail : ℕ → List ℕ → Type 0
-UpTail n bs = isImage (runState (Up n) bs) ≡ true → bs ≡ times (ups - n) upByte
-
-up-step : (n : ℕ) (bs : List ℕ) → ((m : ℕ) → UpTail m bs) → (t : Bool) → ltb n ups ≡ t
-    → isImage (runState (pick t (Up (n + 1)) Stopped) bs) ≡ true → upByte ∷ bs ≡ times (ups - n) upByte
-unfolding times
-up-step n bs ih true e h =
-    let l : n < ups = ltb-true n ups e in
-    let m : suc (ups - (n + 1)) ≡ ups - n = omega arith in
-    ap (λ (l : List ℕ). upByte ∷ l) (ih (n + 1) h) ∙ ap (λ (k : ℕ). times k upByte) m
-up-step n bs ih false e h = halted bs h
-
-up-byte : (n : ℕ) {b : ℕ} (bs : List ℕ) → ((m : ℕ) → UpTail m bs) → ByteView b → UpTail n (b ∷ bs)
-unfolding runState nextState
-up-byte n bs ih isPlus h = halted bs h
-up-byte n bs ih isMinus h = halted bs h
-up-byte n bs ih isHash h = halted bs h
-up-byte n bs ih isPoint h = halted bs h
-up-byte n bs ih isComma h = halted bs h
-up-byte n bs ih isUp h = up-step n bs ih (ltb n ups) refl h
-up-byte n bs ih (isOther e) h = halted-by bs (e (Up n)) h
-
-up-tail : (n : ℕ) (bs : List ℕ) → UpTail n bs
-unfolding runState times
-up-tail n [] h = ap (λ (k : ℕ). times (ups - k) upByte) (sym (eqb-true n ups h))
-up-tail n (b ∷ bs) h = up-byte n bs (λ m. up-tail m bs) (view b) h
+up-tail : (n : ℕ) (bs : List ℕ) → isImage (runState (Up n) bs) ≡ true → bs ≡ times (ups - n) upByte
+up-tail = ups-behind isImage refl (λ n. refl)
 
 -- # signs behind the point, at least so many, and the 5E bytes or none
 record Behind (least : ℕ) (bs : List ℕ) : Type 0 where

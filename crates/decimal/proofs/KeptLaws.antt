@@ -10,11 +10,11 @@ use lib.Dec.{eqb}
 use borrow.Author.Tests.{eq-eqb, ne-eqb, eqb-true, eqb-false}
 use Rattle.decimal.specs.declared.number.Number.{Number}
 use Rattle.decimal.specs.declared.image.Image.{Image}
-use Rattle.decimal.specs.Answer.{Answer, done, refused, pick}
+use Rattle.decimal.specs.Answer.{Answer, done, refused, pick, checkedOnly}
 use Rattle.decimal.specs.Digits.{precision}
 use Rattle.decimal.specs.Number.{exponentLimit, zeroNumber, magnitude, unit, shiftedNumber}
 use Rattle.decimal.specs.Image.{hashes}
-use Rattle.decimal.specs.Truncation.{isSigned, wholeOf, exceeds, exponentOutside, storedExponent, Truncated, truncatedTo, truncation, Fit, keptCount, droppedCount, keptNumber, numberOf, checkedOnly, TruncatesToItself}
+use Rattle.decimal.specs.Truncation.{isSigned, wholeOf, exceeds, exponentOutside, storedExponent, Truncated, truncatedTo, truncation, Fit, keptCount, droppedCount, keptNumber, numberOf, TruncatesToItself}
 use Rattle.decimal.proofs.BoolLaws.{and-again, and-none, zero-or-not}
 use Rattle.decimal.proofs.PowerLaws.{times-power}
 use Rattle.decimal.proofs.DigitLaws.{le-or-lt, leading-unique}

@@ -3,10 +3,13 @@ pub mod BoolLaws
 pub mod AnswerLaws
 pub mod PowerLaws
 pub mod DigitLaws
+pub mod PackedLaws
 pub mod Table
 pub mod ScaleLaws
 pub mod NumberLaws
 pub mod MagnitudeLaws
+pub mod ComparisonLaws
+pub mod ComparisonTheorem
 pub mod ImageTails
 pub mod ImageLaws
 pub mod TruncationLaws

@@ -20,17 +20,18 @@ use Rattle.decimal.proofs.NumberLaws.{InRange, normal-cases, range-norm
 power-in : (m e d : ℕ) → m * 10 ^ e * 10 ^ d ≡ m * 10 ^ (e + d)
 power-in m e d = mul-assoc m (10 ^ e) (10 ^ d) ∙ ap (λ (q : ℕ). m * q) (sym (pow10-add e d))
 
--- of two mantissas that fill their digits, the first has no smaller exponent where the magnitudes are equal
-exponent-least : (p m e n f : ℕ) → m < 10 ^ suc p → 10 ^ p ≤ n → m * 10 ^ e ≡ n * 10 ^ f → f ≤ e
-exponent-least p m e n f high low same =
-    ⊎-elim
-    (λ h. h)
-    (λ h.
+-- of two mantissas that fill their digits, the one with the larger exponent has the larger magnitude
+pub exponent-decides : (p m e n f : ℕ) → m < 10 ^ suc p → 10 ^ p ≤ n → e < f → m * 10 ^ e < n * 10 ^ f
+exponent-decides p m e n f high low h =
     let above : m * 10 ^ e < 10 ^ suc p * 10 ^ e = mul-lt-mul-of-pos-right high (pow10-pos e) in
     let below : 10 ^ p * 10 ^ f ≤ n * 10 ^ f = mul-le-mul-right (10 ^ f) low in
     let between : 10 ^ (suc p + e) ≤ 10 ^ (p + f) = pow10-mono (omega arith) in
-    absurd (omega (arith, pow10-add (suc p) e, pow10-add p f)))
-    (le-or-lt f e)
+    omega (arith, pow10-add (suc p) e, pow10-add p f)
+
+-- the first has no smaller exponent where the magnitudes are equal
+exponent-least : (p m e n f : ℕ) → m < 10 ^ suc p → 10 ^ p ≤ n → m * 10 ^ e ≡ n * 10 ^ f → f ≤ e
+exponent-least p m e n f high low same =
+    ⊎-elim (λ h. h) (λ h. absurd (omega (arith, exponent-decides p m e n f high low h))) (le-or-lt f e)
 
 -- mantissas that fill their digits and their exponents are equal where the magnitudes are
 filled-unique :
@@ -108,12 +109,12 @@ largest-product w t m e high top = let most : m ≤ 10 ^ w - 1 = omega arith in 
 -- The magnitude of a number.
 
 -- the magnitude of zero
-zero-magnitude : magnitude zeroNumber ≡ 0
+pub zero-magnitude : magnitude zeroNumber ≡ 0
 unfolding magnitude
 zero-magnitude = refl
 
 -- the magnitude of a number within the bounds is not zero
-range-positive : (n : Number) → InRange n → 0 < magnitude n
+pub range-positive : (n : Number) → InRange n → 0 < magnitude n
 unfolding magnitude
 range-positive n r = one-le-mul (omega (arith, r .low)) (pow10-pos (n .exponent))
 

@@ -3,14 +3,18 @@ use Prim.Native.Nat.{ℕ, _+_, _-_, _*_, _^_, _≤_, _<_}
 use mathlib.Core.Path.{_≡_, refl, ap, sym, _∙_}
 use mathlib.Core.Bool.{Bool, true, false, not, _&&_}
 use mathlib.Core.Logic.{_⊎_, inl, inr, ⊎-elim}
+use native.Mathlib.Nat.{mul-assoc, mul-lt-mul-of-pos-right}
 use native.Mathlib.Omega.{arith}
 use lib.Dec.{ltb, leb, eqb}
 use borrow.Author.Tests.{eq-eqb, ne-eqb, lt-ltb, le-ltb, le-leb, lt-leb, ltb-true, leb-true, eqb-true, eqb-false, not-true}
 use Rattle.decimal.specs.declared.number.Number.{Number}
+use Rattle.decimal.specs.declared.number.Shifted.{Shifted}
 use Rattle.decimal.specs.Answer.{done, refused}
 use Rattle.decimal.specs.Digits.{precision, leadingZeros}
 use Rattle.decimal.proofs.BoolLaws.{and-true}
-use Rattle.decimal.specs.Number.{exponentLimit, zeroNumber, largestNumber, normal, checkNumber, shiftedNumber, scaledNumber}
+use Rattle.decimal.proofs.PowerLaws.{pow10-pos, pow10-add, times-power}
+use Rattle.decimal.proofs.DigitLaws.{le-or-lt, leading-shift, leading-fewer, leading-at-most}
+use Rattle.decimal.specs.Number.{exponentLimit, zeroNumber, largestNumber, normal, checkNumber, shiftedNumber, scaledNumber, shiftWhere, shiftPast}
 
 -- Normal form.
 
@@ -165,3 +169,83 @@ module _ (place : ℕ) (negative : Bool) (whole up down : ℕ) where
           le-ltb (exponentLimit + (precision - 1) + up) (down + zeros) h,
           le-ltb (2 * exponentLimit) (exponentLimit + (precision - 1) + up - (down + zeros)) l,
         )
+
+-- Shifting.
+
+-- a whole number times ten to the power of zeros: it keeps to its digits, and fewer than left zeros stand before it yet
+pub record Shifting (whole left : ℕ) (s : Shifted) : Type 0 where
+  pub product : s .mantissa ≡ whole * 10 ^ s .zeros
+  pub positive : 0 < s .mantissa
+  pub high : s .mantissa < 10 ^ precision
+  pub counted : s .zeros + leadingZeros precision (s .mantissa) ≡ leadingZeros precision whole
+  pub few : leadingZeros precision (s .mantissa) < left
+
+-- a nonzero number that is not shifted yet
+pub shifting-starts : (whole left : ℕ) → 0 < whole → whole < 10 ^ precision → precision ≤ left → Shifting whole left (record { mantissa = whole; zeros = 0 })
+shifting-starts whole left positive high h =
+    record {
+      product = omega arith;
+      positive = positive;
+      high = high;
+      counted = omega arith;
+      few = omega (arith, leading-fewer precision 0 whole positive (omega arith));
+    }
+
+module _ (j : ℕ) (s : Shifted) where
+  -- where fewer than j zeros stand before the number, it stays
+  pub shift-none : 10 ^ (precision - j) ≤ s .mantissa → shiftPast j s ≡ s
+  unfolding shiftPast
+  shift-none h = rw (le-ltb (s .mantissa) (10 ^ (precision - j)) h)
+
+  -- else it is shifted by j digits
+  pub shift-some : s .mantissa < 10 ^ (precision - j) → shiftPast j s ≡ record { mantissa = s .mantissa * 10 ^ j; zeros = s .zeros + j }
+  unfolding shiftPast
+  shift-some h = rw (lt-ltb (s .mantissa) (10 ^ (precision - j)) h)
+
+  -- then it keeps to its digits
+  pub shift-fits : j ≤ precision → s .mantissa < 10 ^ (precision - j) → s .mantissa * 10 ^ j < 10 ^ precision
+  shift-fits size h =
+      let sum : precision - j + j ≡ precision = omega arith in
+      let parts : 10 ^ (precision - j) * 10 ^ j ≡ 10 ^ precision = sym (pow10-add (precision - j) j) ∙ ap (λ (q : ℕ). 10 ^ q) sum in
+      omega (arith, parts, mul-lt-mul-of-pos-right h (pow10-pos j))
+
+  -- a step past j zeros leaves half of the zeros that may stand before the number
+  pub shifting-step : (whole : ℕ) → 0 < j → j ≤ precision → Shifting whole (j + j) s → Shifting whole j (shiftPast j s)
+  shifting-step whole some size g = ⊎-elim stays shifts (le-or-lt (10 ^ (precision - j)) (s .mantissa))
+    where
+      stays : 10 ^ (precision - j) ≤ s .mantissa → Shifting whole j (shiftPast j s)
+      stays h =
+          rw (shift-none h)
+          (record {
+            product = g .product;
+            positive = g .positive;
+            high = g .high;
+            counted = g .counted;
+            few = omega (arith, leading-fewer precision (precision - j) (s .mantissa) h (omega arith));
+          })
+
+      shifts : s .mantissa < 10 ^ (precision - j) → Shifting whole j (shiftPast j s)
+      shifts h =
+          let fits = shift-fits size h in
+          let less = leading-shift (precision - 1) j (s .mantissa) (g .positive) fits in
+          rw (shift-some h)
+          (record {
+            product =
+                ap (λ (m : ℕ). m * 10 ^ j) (g .product)
+                ∙ mul-assoc whole (10 ^ s .zeros) (10 ^ j)
+                ∙ ap (λ (p : ℕ). whole * p) (sym (pow10-add (s .zeros) j));
+            positive = omega (arith, times-power (s .mantissa) j, g .positive);
+            high = fits;
+            counted = omega (arith, less, g .counted);
+            few = omega (arith, less, g .few);
+          })
+
+-- it is shifted by at most all digits
+pub shifting-small : {whole left : ℕ} {s : Shifted} → Shifting whole left s → s .zeros ≤ precision
+shifting-small {whole = whole} g = omega (arith, g .counted, leading-at-most precision whole)
+
+-- with no zero left the number is shifted by the zeros that stood before it
+pub shifting-ends : (whole : ℕ) (s : Shifted) → Shifting whole 1 s → (s .zeros ≡ leadingZeros precision whole) × (s .mantissa ≡ whole * 10 ^ leadingZeros precision whole)
+shifting-ends whole s g =
+    let zeros : s .zeros ≡ leadingZeros precision whole = omega (arith, g .counted, g .few) in
+    (zeros, g .product ∙ ap (λ (z : ℕ). whole * 10 ^ z) zeros)

@@ -1,10 +1,14 @@
 -- Powers of ten.
 -- Assumes nothing.
-use mathlib.Core.Path.{_≡_, ap, _∙_}
+use mathlib.Core.Path.{_≡_, ap, sym, _∙_}
 use Prim.Native.Nat.{ℕ, suc, _+_, _*_, _^_, _<_, _≤_}
 use native.Mathlib.Nat.{one-le-pow, pow-succ', pow-le-pow-right, mul-left-comm, le-mul-of-pos-right}
 use native.Mathlib.Omega.{arith}
+use lib.Dec.{ltb}
 use lib.Pow.{pow-add}
+use borrow.Author.Tests.{lt-ltb, le-ltb}
+use Rattle.decimal.specs.Answer.{pick}
+use Rattle.decimal.specs.Digits.{powerOfTen}
 
 -- a power of ten is not zero
 pub pow10-pos : (n : ℕ) → 0 < 10 ^ n
@@ -29,3 +33,18 @@ times-ten k n = ap (λ (p : ℕ). k * p) (pow10-suc n) ∙ mul-left-comm k 10 (1
 -- a product with a power of ten is no smaller
 pub times-power : (k n : ℕ) → k ≤ k * 10 ^ n
 times-power k n = le-mul-of-pos-right k (pow10-pos n)
+
+-- the power of an exponent below 20 is a power of ten
+pub power-small : (e : ℕ) → e < 20 → powerOfTen e ≡ 10 ^ e
+unfolding powerOfTen
+power-small e h = rw (lt-ltb e 20 h)
+
+-- that of a larger one is 0
+pub power-large : (e : ℕ) → 20 ≤ e → powerOfTen e ≡ 0
+unfolding powerOfTen
+power-large e h = rw (le-ltb e 20 h)
+
+-- an exponent's power is that of the key that it equals, which antt computes
+pub power-at : {e k : ℕ} → e ≡ k → pick (ltb k 20) (10 ^ k) 0 ≡ powerOfTen e
+unfolding powerOfTen
+power-at h = ap powerOfTen (sym h)

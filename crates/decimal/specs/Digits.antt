@@ -10,6 +10,10 @@ use Rattle.decimal.specs.Answer.{pick}
 abbrev pub precision : ℕ
 precision = 13
 
+-- ten to the power of e where a machine word of 64 bits holds that, which is so below 20; else 0
+unfoldable pub powerOfTen : ℕ → ℕ
+powerOfTen e = pick (ltb e 20) (10 ^ e) 0
+
 -- the last n decimal digits of k, the first digit first
 unfoldable pub digitsOf : ℕ → ℕ → List ℕ
 digitsOf zero k = []
@@ -19,6 +23,21 @@ digitsOf (suc n) k = k / 10 ^ n % 10 ∷ digitsOf n k
 unfoldable pub valueOf : List ℕ → ℕ
 valueOf [] = 0
 valueOf (d ∷ ds) = d * 10 ^ length ds + valueOf ds
+
+-- half bytes as one number, four bits each, the first one highest
+unfoldable pub packedOf : List ℕ → ℕ
+packedOf [] = 0
+packedOf (h ∷ hs) = h * 2 ^ (4 * length hs) + packedOf hs
+
+-- the last n half bytes of a number, the first one first
+unfoldable pub halvesIn : ℕ → ℕ → List ℕ
+halvesIn zero k = []
+halvesIn (suc n) k = k / 2 ^ (4 * n) % 2 ^ 4 ∷ halvesIn n k
+
+-- each element is a half byte
+unfoldable pub Halves : List ℕ → Type 0
+Halves [] = Unit {0}
+Halves (h ∷ hs) = (h < 2 ^ 4) × Halves hs
 
 -- n zeros
 unfoldable pub zeros : ℕ → List ℕ

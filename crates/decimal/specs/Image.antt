@@ -10,8 +10,8 @@ use Rattle.decimal.specs.declared.image.Image.{Image}
 use Rattle.decimal.specs.declared.image.ImageAnswer.{ImageAnswer}
 use Rattle.decimal.specs.declared.image.ImageAnswer.the-variants as gives
 use Rattle.decimal.specs.declared.image.Scan.{Scan}
-use Rattle.decimal.specs.declared.image.State.{State}
-use Rattle.decimal.specs.declared.image.State.the-variants.{Start, Signed, Integer, Comma, Point, Fraction, Up, Stopped}
+use Rattle.decimal.specs.declared.image.State.{State as CodeState}
+use Rattle.decimal.specs.declared.image.State.the-variants as code
 use Rattle.decimal.specs.Answer.{Answer, done, refused, pick}
 use Rattle.decimal.specs.Digits.{precision}
 
@@ -76,7 +76,43 @@ pub record IsImage (bytes : List ℕ) (im : Image) : Type 0 where
   pub rendered : bytes ≡ imageBytes im
   pub nonempty : 0 < hashes im
 
--- The machine, which print lines use too: its states are the code's.
+-- The machine, which print lines use too.
+
+-- what was read of a field, from its first byte
+pub data State : Type 0 where
+  -- nothing
+  Start : State
+  -- a sign
+  Signed : State
+  -- # signs and no point, a # last; whether a comma stands among them
+  Integer : Bool → State
+  -- a comma last, which a # must follow
+  Comma : State
+  -- a point last, which a # must follow; whether a comma stands before it
+  Point : Bool → State
+  -- # signs behind a point; whether a comma stands before the point
+  Fraction : Bool → State
+  -- the count of 5E bytes behind the # signs; an image has four of them
+  Up : ℕ → State
+  -- no field begins so
+  Stopped : State
+
+-- the state that each of the code's states stands for: the code has a state of its own for each flag and each count
+abbrev pub stateOf : CodeState → State
+stateOf code.Start = Start
+stateOf code.Signed = Signed
+stateOf code.Integer = Integer false
+stateOf code.Grouped = Integer true
+stateOf code.Comma = Comma
+stateOf code.Point = Point false
+stateOf code.GroupedPoint = Point true
+stateOf code.Fraction = Fraction false
+stateOf code.GroupedFraction = Fraction true
+stateOf code.FirstUp = Up 1
+stateOf code.SecondUp = Up 2
+stateOf code.ThirdUp = Up 3
+stateOf code.Exponential = Up ups
+stateOf code.Stopped = Stopped
 
 -- after a sign, which only begins a field
 abbrev pub afterSign : State → State
@@ -236,9 +272,11 @@ scannedImage bytes =
       exponential = isExponential (runState Start bytes);
     }
 
--- the code's scan of bytes: the last state, and what was read
-abbrev pub scanOf : List ℕ → Scan
-scanOf bytes = record { state = runState Start bytes; image = scannedImage bytes }
+-- the code's scan of bytes: the last state, and the # signs before and behind the point
+pub record Scanned (bytes : List ℕ) (scan : Scan) : Type 0 where
+  pub ended : stateOf (scan .state) ≡ runState Start bytes
+  pub integers : scan .integer ≡ integersFrom Start bytes
+  pub fractions : scan .fraction ≡ fractionsFrom Start bytes
 
 -- bytes read as an image: 1 where they are none, 2 where n is above 13
 unfoldable pub readImage : ℕ → List ℕ → Answer Image

@@ -1,8 +1,9 @@
 -- Document 01, Numbers: normal form, the meaning of a number, and its constructors.
 use Prim.Native.Nat.{ℕ, _+_, _-_, _*_, _^_}
-use mathlib.Core.Bool.{Bool, false, not, _&&_}
+use mathlib.Core.Bool.{Bool, true, false, not, _&&_}
 use lib.Dec.{ltb, leb, eqb}
 use Rattle.decimal.specs.declared.number.Number.{Number}
+use Rattle.decimal.specs.declared.number.Shifted.{Shifted}
 use Rattle.decimal.specs.declared.number.NumberAnswer.{NumberAnswer}
 use Rattle.decimal.specs.declared.number.NumberAnswer.the-variants as gives
 use Rattle.decimal.specs.Answer.{Answer, done, refused, pick}
@@ -75,3 +76,14 @@ stepsNumber steps = scaledNumber 0 false steps 0 0
 abbrev pub numberMeaning : NumberAnswer → Answer Number
 numberMeaning (gives.Number n) = done n
 numberMeaning (gives.Refused r) = refused (r .number) (r .place)
+
+-- What the code's helpers find.
+
+-- a number shifted by count digits where the test holds
+abbrev pub shiftWhere : Bool → ℕ → Shifted → Shifted
+shiftWhere true count s = record { mantissa = s .mantissa * 10 ^ count; zeros = s .zeros + count }
+shiftWhere false count s = s
+
+-- a number shifted by count digits where at least count zeros stand before it
+unfoldable pub shiftPast : ℕ → Shifted → Shifted
+shiftPast count s = shiftWhere (ltb (s .mantissa) (10 ^ (precision - count))) count s

@@ -7,11 +7,10 @@ use Rattle.decimal.specs.declared.number.Number.{Number}
 use Rattle.decimal.specs.declared.image.Sign.{Sign}
 use Rattle.decimal.specs.declared.image.Sign.the-variants.{Unsigned, Plus, Minus}
 use Rattle.decimal.specs.declared.image.Image.{Image}
-use Rattle.decimal.specs.declared.truncation.FitAnswer.{FitAnswer}
-use Rattle.decimal.specs.declared.truncation.FitAnswer.the-variants as fits
+use Rattle.decimal.specs.declared.refusal.CheckAnswer.the-variants as checks
 use Rattle.decimal.specs.declared.truncation.Truncation.{Truncation}
 use Rattle.decimal.specs.Answer.{Answer, done, refused, _then_, pick}
-use Rattle.decimal.specs.Digits.{precision, digitsOf, zeros}
+use Rattle.decimal.specs.Digits.{precision, digitsOf, packedOf}
 use Rattle.decimal.specs.Number.{exponentLimit, normal, magnitude, unit, checkNumber, scaledNumber}
 use Rattle.decimal.specs.Image.{hashes, checkImage}
 
@@ -96,25 +95,15 @@ numberOf place im t = scaledNumber place (t .negative) (t .whole) (t .x) (expone
 unfoldable pub truncatedNumber : ℕ → Image → Number → Answer Number
 truncatedNumber place im n = truncation place im n then numberOf place im
 
--- an answer without its result
-unfoldable pub checkedOnly : {A : Type 0} → Answer A → Answer (Unit {0})
-checkedOnly (done a) = done tt
-checkedOnly (refused number place) = refused number place
-
--- each case of the code's answer, in document 01's numbers
-abbrev pub fitMeaning : FitAnswer → Answer (Unit {0})
-fitMeaning fits.Fits = done tt
-fitMeaning (fits.Refused r) = refused (r .number) (r .place)
-
--- the code's truncation, of each answer: the last n of its digits are the image's
+-- the code's truncation, of each answer: the image's n digits are the last n of its half bytes
 unfoldable pub truncationOf : Answer Truncated → Truncation
 truncationOf (done t) =
-    record { answer = fits.Fits; negative = t .negative; digits = digitsOf precision (t .whole); x = t .x }
+    record { answer = checks.Fine; negative = t .negative; halves = packedOf (digitsOf precision (t .whole)); x = t .x }
 truncationOf (refused number place) =
     record {
-      answer = fits.Refused (record { number = number; place = place });
+      answer = checks.Refused (record { number = number; place = place });
       negative = false;
-      digits = zeros precision;
+      halves = 0;
       x = exponentLimit;
     }
 

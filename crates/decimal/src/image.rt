@@ -1,21 +1,21 @@
 // Images and the state machine that reads them (document 01: Images). The scanner of print lines uses the same machine.
 ghost use mathlib.Core.Path.{_≡_};
 ghost use Rattle.decimal.specs.Image.{
+  stateOf,
   afterSign,
   afterHash,
   afterPoint,
   afterComma,
   afterUp,
-  firstUp,
   nextState,
   isImage,
   integerHash,
   fractionHash,
   isExponential,
   counted,
-  leadingSign,
+  signOf,
   checkImage,
-  scanOf,
+  Scanned,
   readImage,
   imageMeaning,
 };
@@ -38,8 +38,8 @@ pub enum Sign {
 // An image: its sign, the counts of # before and after the point (document 01's i and f), and whether it is exponential.
 pub struct Image {
     pub sign: Sign,
-    pub integer: usize,
-    pub fraction: usize,
+    pub integer: u8,
+    pub fraction: u8,
     pub exponential: bool,
 }
 
@@ -55,32 +55,42 @@ pub enum State {
     Start,
     // A sign.
     Signed,
-    // # signs and no point, a # last; whether a comma stands among them.
-    Integer(bool),
+    // # signs and no point, a # last.
+    Integer,
+    // As Integer, with a comma among the # signs.
+    Grouped,
     // A comma last, which a # must follow.
     Comma,
-    // A point last, which a # must follow; whether a comma stands before it.
-    Point(bool),
-    // # signs behind a point; whether a comma stands before the point.
-    Fraction(bool),
-    // The count of 5E bytes behind the # signs; an image has four of them.
-    Up(u8),
+    // A point last, which a # must follow.
+    Point,
+    // As Point, with a comma before the point.
+    GroupedPoint,
+    // # signs behind a point.
+    Fraction,
+    // As Fraction, with a comma before the point.
+    GroupedFraction,
+    // One 5E byte behind the # signs.
+    FirstUp,
+    // Two of them.
+    SecondUp,
+    // Three of them.
+    ThirdUp,
+    // The four 5E bytes of an exponential image.
+    Exponential,
     // No field begins so.
     Stopped,
 }
 
-// What was read of bytes.
-pub struct Scan {
-    pub state: State,
-    pub image: Image,
+// What was read of bytes: the last state, and the counts of # before and behind the point.
+struct Scan {
+    state: State,
+    integer: usize,
+    fraction: usize,
 }
-
-// The count of 5E bytes in an exponential image.
-const UPS: u8 = 4;
 
 // The state after one more byte.
 pub fn next_state(state: State, byte: u8) -> State
-    ensures { λ r. ⌜ r ≡ nextState state byte ⌝ }
+    ensures { λ r. ⌜ stateOf r ≡ nextState (stateOf state) byte ⌝ }
 {
     match byte {
         b'+' | b'-' => after_sign(state),
@@ -94,174 +104,207 @@ pub fn next_state(state: State, byte: u8) -> State
 
 // The state after a sign, which only begins a field.
 fn after_sign(state: State) -> State
-    ensures { λ r. ⌜ r ≡ afterSign state ⌝ }
+    ensures { λ r. ⌜ stateOf r ≡ afterSign (stateOf state) ⌝ }
 {
     match state {
         State::Start => State::Signed,
         State::Signed => State::Stopped,
-        State::Integer(_) => State::Stopped,
+        State::Integer => State::Stopped,
+        State::Grouped => State::Stopped,
         State::Comma => State::Stopped,
-        State::Point(_) => State::Stopped,
-        State::Fraction(_) => State::Stopped,
-        State::Up(_) => State::Stopped,
+        State::Point => State::Stopped,
+        State::GroupedPoint => State::Stopped,
+        State::Fraction => State::Stopped,
+        State::GroupedFraction => State::Stopped,
+        State::FirstUp => State::Stopped,
+        State::SecondUp => State::Stopped,
+        State::ThirdUp => State::Stopped,
+        State::Exponential => State::Stopped,
         State::Stopped => State::Stopped,
     }
 }
 
 // The state after a #.
 fn after_hash(state: State) -> State
-    ensures { λ r. ⌜ r ≡ afterHash state ⌝ }
+    ensures { λ r. ⌜ stateOf r ≡ afterHash (stateOf state) ⌝ }
 {
     match state {
-        State::Start => State::Integer(false),
-        State::Signed => State::Integer(false),
-        State::Integer(grouped) => State::Integer(grouped),
-        State::Comma => State::Integer(true),
-        State::Point(grouped) => State::Fraction(grouped),
-        State::Fraction(grouped) => State::Fraction(grouped),
-        State::Up(_) => State::Stopped,
+        State::Start => State::Integer,
+        State::Signed => State::Integer,
+        State::Integer => State::Integer,
+        State::Grouped => State::Grouped,
+        State::Comma => State::Grouped,
+        State::Point => State::Fraction,
+        State::GroupedPoint => State::GroupedFraction,
+        State::Fraction => State::Fraction,
+        State::GroupedFraction => State::GroupedFraction,
+        State::FirstUp => State::Stopped,
+        State::SecondUp => State::Stopped,
+        State::ThirdUp => State::Stopped,
+        State::Exponential => State::Stopped,
         State::Stopped => State::Stopped,
     }
 }
 
 // The state after a point, of which there is at most one.
 fn after_point(state: State) -> State
-    ensures { λ r. ⌜ r ≡ afterPoint state ⌝ }
+    ensures { λ r. ⌜ stateOf r ≡ afterPoint (stateOf state) ⌝ }
 {
     match state {
-        State::Start => State::Point(false),
-        State::Signed => State::Point(false),
-        State::Integer(grouped) => State::Point(grouped),
+        State::Start => State::Point,
+        State::Signed => State::Point,
+        State::Integer => State::Point,
+        State::Grouped => State::GroupedPoint,
         State::Comma => State::Stopped,
-        State::Point(_) => State::Stopped,
-        State::Fraction(_) => State::Stopped,
-        State::Up(_) => State::Stopped,
+        State::Point => State::Stopped,
+        State::GroupedPoint => State::Stopped,
+        State::Fraction => State::Stopped,
+        State::GroupedFraction => State::Stopped,
+        State::FirstUp => State::Stopped,
+        State::SecondUp => State::Stopped,
+        State::ThirdUp => State::Stopped,
+        State::Exponential => State::Stopped,
         State::Stopped => State::Stopped,
     }
 }
 
 // The state after a comma, which stands behind a # before the point.
 fn after_comma(state: State) -> State
-    ensures { λ r. ⌜ r ≡ afterComma state ⌝ }
+    ensures { λ r. ⌜ stateOf r ≡ afterComma (stateOf state) ⌝ }
 {
     match state {
         State::Start => State::Stopped,
         State::Signed => State::Stopped,
-        State::Integer(_) => State::Comma,
+        State::Integer => State::Comma,
+        State::Grouped => State::Comma,
         State::Comma => State::Stopped,
-        State::Point(_) => State::Stopped,
-        State::Fraction(_) => State::Stopped,
-        State::Up(_) => State::Stopped,
+        State::Point => State::Stopped,
+        State::GroupedPoint => State::Stopped,
+        State::Fraction => State::Stopped,
+        State::GroupedFraction => State::Stopped,
+        State::FirstUp => State::Stopped,
+        State::SecondUp => State::Stopped,
+        State::ThirdUp => State::Stopped,
+        State::Exponential => State::Stopped,
         State::Stopped => State::Stopped,
     }
 }
 
 // The state after a 5E byte; a field with a comma is fixed point.
 fn after_up(state: State) -> State
-    ensures { λ r. ⌜ r ≡ afterUp state ⌝ }
+    ensures { λ r. ⌜ stateOf r ≡ afterUp (stateOf state) ⌝ }
 {
     match state {
         State::Start => State::Stopped,
         State::Signed => State::Stopped,
-        State::Integer(grouped) => first_up(grouped),
+        State::Integer => State::FirstUp,
+        State::Grouped => State::Stopped,
         State::Comma => State::Stopped,
-        State::Point(_) => State::Stopped,
-        State::Fraction(grouped) => first_up(grouped),
-        State::Up(count) => {
-            if count < UPS {
-                State::Up(count + 1)
-            } else {
-                State::Stopped
-            }
-        }
+        State::Point => State::Stopped,
+        State::GroupedPoint => State::Stopped,
+        State::Fraction => State::FirstUp,
+        State::GroupedFraction => State::Stopped,
+        State::FirstUp => State::SecondUp,
+        State::SecondUp => State::ThirdUp,
+        State::ThirdUp => State::Exponential,
+        State::Exponential => State::Stopped,
         State::Stopped => State::Stopped,
-    }
-}
-
-// The state after the first 5E byte behind # signs.
-fn first_up(grouped: bool) -> State
-    ensures { λ r. ⌜ r ≡ firstUp grouped ⌝ }
-{
-    if grouped {
-        State::Stopped
-    } else {
-        State::Up(1)
     }
 }
 
 // Whether the bytes that led to a state are an image.
 fn is_image(state: State) -> bool
-    ensures { λ r. ⌜ r ≡ isImage state ⌝ }
+    ensures { λ r. ⌜ r ≡ isImage (stateOf state) ⌝ }
 {
     match state {
         State::Start => false,
         State::Signed => false,
-        State::Integer(grouped) => !grouped,
+        State::Integer => true,
+        State::Grouped => false,
         State::Comma => false,
-        State::Point(_) => false,
-        State::Fraction(grouped) => !grouped,
-        State::Up(count) => count == UPS,
+        State::Point => false,
+        State::GroupedPoint => false,
+        State::Fraction => true,
+        State::GroupedFraction => false,
+        State::FirstUp => false,
+        State::SecondUp => false,
+        State::ThirdUp => false,
+        State::Exponential => true,
         State::Stopped => false,
     }
 }
 
 // 1 where a state says that the last byte is a # before the point, else 0.
-fn integer_hash(state: State) -> usize
-    ensures { λ r. ⌜ r ≡ counted (integerHash state) 0 ⌝ }
+pub fn integer_hash(state: State) -> usize
+    ensures { λ r. ⌜ r ≡ counted (integerHash (stateOf state)) 0 ⌝ }
 {
     match state {
         State::Start => 0,
         State::Signed => 0,
-        State::Integer(_) => 1,
+        State::Integer => 1,
+        State::Grouped => 1,
         State::Comma => 0,
-        State::Point(_) => 0,
-        State::Fraction(_) => 0,
-        State::Up(_) => 0,
+        State::Point => 0,
+        State::GroupedPoint => 0,
+        State::Fraction => 0,
+        State::GroupedFraction => 0,
+        State::FirstUp => 0,
+        State::SecondUp => 0,
+        State::ThirdUp => 0,
+        State::Exponential => 0,
         State::Stopped => 0,
     }
 }
 
 // 1 where a state says that the last byte is a # behind the point, else 0.
-fn fraction_hash(state: State) -> usize
-    ensures { λ r. ⌜ r ≡ counted (fractionHash state) 0 ⌝ }
+pub fn fraction_hash(state: State) -> usize
+    ensures { λ r. ⌜ r ≡ counted (fractionHash (stateOf state)) 0 ⌝ }
 {
     match state {
         State::Start => 0,
         State::Signed => 0,
-        State::Integer(_) => 0,
+        State::Integer => 0,
+        State::Grouped => 0,
         State::Comma => 0,
-        State::Point(_) => 0,
-        State::Fraction(_) => 1,
-        State::Up(_) => 0,
+        State::Point => 0,
+        State::GroupedPoint => 0,
+        State::Fraction => 1,
+        State::GroupedFraction => 1,
+        State::FirstUp => 0,
+        State::SecondUp => 0,
+        State::ThirdUp => 0,
+        State::Exponential => 0,
         State::Stopped => 0,
     }
 }
 
 // Whether a state says that the last byte is a 5E.
-fn is_exponential(state: State) -> bool
-    ensures { λ r. ⌜ r ≡ isExponential state ⌝ }
+pub fn is_exponential(state: State) -> bool
+    ensures { λ r. ⌜ r ≡ isExponential (stateOf state) ⌝ }
 {
     match state {
         State::Start => false,
         State::Signed => false,
-        State::Integer(_) => false,
+        State::Integer => false,
+        State::Grouped => false,
         State::Comma => false,
-        State::Point(_) => false,
-        State::Fraction(_) => false,
-        State::Up(_) => true,
+        State::Point => false,
+        State::GroupedPoint => false,
+        State::Fraction => false,
+        State::GroupedFraction => false,
+        State::FirstUp => true,
+        State::SecondUp => true,
+        State::ThirdUp => true,
+        State::Exponential => true,
         State::Stopped => false,
     }
 }
 
-// The sign that bytes begin with.
-fn leading_sign(bytes: &[u8]) -> Sign
-    ensures { λ r. ⌜ r ≡ leadingSign (now (bytes .entry)) ⌝ }
+// The sign that a byte is.
+pub fn sign_of(byte: u8) -> Sign
+    ensures { λ r. ⌜ r ≡ signOf byte ⌝ }
 {
-    if bytes.len() == 0 {
-        return Sign::Unsigned;
-    }
-    let first = bytes[0];
-    match first {
+    match byte {
         b'+' => Sign::Plus,
         b'-' => Sign::Minus,
         _ => Sign::Unsigned,
@@ -273,13 +316,14 @@ impl Image {
     pub fn checked(self, place: usize) -> ImageAnswer
         ensures { λ r. ⌜ imageMeaning r ≡ checkImage place self ⌝ }
     {
-        if self.integer == 0 && self.fraction == 0 {
+        let count = self.integer as usize + self.fraction as usize;
+        if count == 0 {
             return ImageAnswer::Refused(Refusal {
                 number: NOT_AN_IMAGE,
                 place,
             });
         }
-        if PRECISION < self.integer || PRECISION - self.integer < self.fraction {
+        if PRECISION < count {
             return ImageAnswer::Refused(Refusal {
                 number: TOO_MANY_DIGITS,
                 place,
@@ -289,9 +333,9 @@ impl Image {
     }
 }
 
-// What the machine has read of bytes: its last state, and the sign, the # signs and the kind that it saw.
-pub fn scan_bytes(bytes: &[u8]) -> Scan
-    ensures { λ r. ⌜ r ≡ scanOf (now (bytes .entry)) ⌝ }
+// What the machine has read of bytes: its last state, and the # signs that it saw.
+fn scan_bytes(bytes: &[u8]) -> Scan
+    ensures { λ r. ⌜ Scanned (now (bytes .entry)) r ⌝ }
 {
     let mut state = State::Start;
     let mut integer: usize = 0;
@@ -303,13 +347,11 @@ pub fn scan_bytes(bytes: &[u8]) -> Scan
         fraction += fraction_hash(state);
         at += 1;
     }
-    let image = Image {
-        sign: leading_sign(bytes),
+    Scan {
+        state,
         integer,
         fraction,
-        exponential: is_exponential(state),
-    };
-    Scan { state, image }
+    }
 }
 
 // Bytes read as an image; refused with 1 where they are none, with 2 where there are more than PRECISION # signs.
@@ -319,8 +361,18 @@ pub fn read_image(bytes: &[u8], place: usize) -> ImageAnswer
     let scan = scan_bytes(bytes);
     let state = scan.state;
     if is_image(state) {
-        let image = scan.image;
-        return image.checked(place);
+        if PRECISION < scan.integer || PRECISION - scan.integer < scan.fraction {
+            return ImageAnswer::Refused(Refusal {
+                number: TOO_MANY_DIGITS,
+                place,
+            });
+        }
+        return ImageAnswer::Image(Image {
+            sign: sign_of(bytes[0]),
+            integer: scan.integer as u8,
+            fraction: scan.fraction as u8,
+            exponential: is_exponential(state),
+        });
     }
     ImageAnswer::Refused(Refusal {
         number: NOT_AN_IMAGE,

@@ -1,12 +1,11 @@
 // The number type, its constants, its constructors and its normal-form test (document 01: Numbers).
 ghost use mathlib.Core.Path.{_≡_};
-ghost use Prim.Native.Nat.{_<_, _^_};
+ghost use Prim.Native.Nat.{_*_, _^_, _<_, _≤_};
 ghost use Rattle.decimal.specs.Digits.{precision, leadingZeros};
 ghost use Rattle.decimal.specs.Answer.{Answer};
-ghost use Rattle.decimal.specs.Number.{zeroNumber, largestNumber, normal, newNumber, scaledNumber, stepsNumber, numberMeaning};
+ghost use Rattle.decimal.specs.Number.{zeroNumber, largestNumber, normal, newNumber, scaledNumber, shiftPast, stepsNumber, numberMeaning};
 use crate::digits::PRECISION;
-use crate::powers::POWERS;
-use crate::powers::power;
+use crate::powers::power_of_ten;
 use crate::refusal::Refusal;
 
 // The largest decimal exponent; the smallest is its negative.
@@ -24,10 +23,17 @@ pub const NOT_NORMAL: u8 = 3;
 // Refusal 5: an exponent outside its limits.
 pub const EXPONENT_OUTSIDE: u8 = 5;
 
-// The smallest mantissa of a nonzero number, and the first number above all mantissas.
-const MANTISSA_LOW: u64 = POWERS[PRECISION - 1];
+// The smallest mantissa of a nonzero number is 10^LOW_EXPONENT.
+const LOW_EXPONENT: usize = PRECISION - 1;
 
-const MANTISSA_END: u64 = POWERS[PRECISION];
+// That power, as a product by the exponent's binary digits: a constant's value has no call. The exponent is below 16.
+const MANTISSA_LOW: u64 = [1, 10][LOW_EXPONENT & 1]
+    * [1, 100][LOW_EXPONENT >> 1 & 1]
+    * [1, 10_000][LOW_EXPONENT >> 2 & 1]
+    * [1, 100_000_000][LOW_EXPONENT >> 3 & 1];
+
+// The first number above all mantissas.
+const MANTISSA_END: u64 = 10 * MANTISSA_LOW;
 
 // A number: sign, mantissa and exponent. The field exponent holds e + EXPONENT_LIMIT, where e is document 01's exponent.
 // The magnitude is mantissa * 10^(e - (PRECISION - 1)).
@@ -118,9 +124,9 @@ impl Number {
         if whole == 0 {
             return NumberAnswer::Number(Number::ZERO);
         }
-        let zeros = leading_zeros(whole);
+        let shifted = shift_left(whole);
         let high = SCALE + up as usize;
-        let low = down as usize + zeros;
+        let low = down as usize + shifted.zeros;
         if high < low {
             return refused(EXPONENT_OUTSIDE, place);
         }
@@ -129,7 +135,7 @@ impl Number {
         }
         NumberAnswer::Number(Number {
             negative,
-            mantissa: whole * power(zeros),
+            mantissa: shifted.mantissa,
             exponent: high - low,
         })
     }
@@ -149,16 +155,34 @@ fn refused(number: u8, place: usize) -> NumberAnswer
     NumberAnswer::Refused(Refusal { number, place })
 }
 
-// How many zeros stand before a nonzero whole number below 10^PRECISION that is written with PRECISION digits.
-fn leading_zeros(whole: u64) -> usize
-    requires { ⌜ (0 < whole) × (whole < 10 ^ precision) ⌝ }
-    ensures { λ r. ⌜ r ≡ leadingZeros precision whole ⌝ }
+// A whole number times ten to the power of zeros.
+struct Shifted {
+    mantissa: u64,
+    zeros: usize,
+}
+
+// Shifts a number by count digits where at least count zeros stand before it, written with PRECISION digits.
+fn shift_past(number: Shifted, count: usize) -> Shifted
+    requires { ⌜ (count ≤ precision) × (number .zeros ≤ precision) ⌝ }
+    ensures { λ r. ⌜ r ≡ shiftPast count number ⌝ }
 {
-    let mut zeros = 0;
-    let mut shifted = whole;
-    while shifted < MANTISSA_LOW {
-        shifted = shifted * 10;
-        zeros += 1;
+    if power_of_ten(PRECISION - count) <= number.mantissa {
+        return number;
     }
-    zeros
+    Shifted {
+        mantissa: number.mantissa * power_of_ten(count),
+        zeros: number.zeros + count,
+    }
+}
+
+// A nonzero whole number below 10^PRECISION without the zeros before it, written with PRECISION digits, and how many they were.
+fn shift_left(whole: u64) -> Shifted
+    requires { ⌜ (0 < whole) × (whole < 10 ^ precision) ⌝ }
+    ensures { λ r. ⌜ (r .zeros ≡ leadingZeros precision whole) × (r .mantissa ≡ whole * 10 ^ leadingZeros precision whole) ⌝ }
+{
+    let number = Shifted {
+        mantissa: whole,
+        zeros: 0,
+    };
+    shift_past(shift_past(shift_past(shift_past(number, 8), 4), 2), 1)
 }

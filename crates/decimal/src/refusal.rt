@@ -3,3 +3,9 @@ pub struct Refusal {
     pub number: u8,
     pub place: usize,
 }
+
+// What a check finds: all is fine, or why the call is refused.
+pub enum CheckAnswer {
+    Fine,
+    Refused(Refusal),
+}

@@ -3,8 +3,8 @@ ghost use mathlib.Core.Path.{_≡_};
 ghost use mathlib.Core.Bool.{true, not, _&&_};
 ghost use Prim.Native.Nat.{_+_, _-_, _*_, _/_, _^_, _<_, _≤_};
 ghost use lib.Dec.{eqb};
-ghost use Rattle.decimal.specs.Answer.{Answer};
-ghost use Rattle.decimal.specs.Digits.{precision, digitsOf};
+ghost use Rattle.decimal.specs.Answer.{Answer, checkMeaning, checkedOnly};
+ghost use Rattle.decimal.specs.Digits.{precision, digitsOf, packedOf};
 ghost use Rattle.decimal.specs.Number.{exponentLimit, normal, numberMeaning};
 ghost use Rattle.decimal.specs.Truncation.{
   isSigned,
@@ -16,13 +16,11 @@ ghost use Rattle.decimal.specs.Truncation.{
   limited,
   truncation,
   packedTruncation,
-  fitMeaning,
-  checkedOnly,
   truncationOf,
   truncatedNumber,
 };
 use crate::digits::PRECISION;
-use crate::digits::digits_of;
+use crate::digits::packed_digits;
 use crate::image::Image;
 use crate::image::ImageAnswer;
 use crate::image::Sign;
@@ -32,24 +30,20 @@ use crate::number::EXPONENT_TOP;
 use crate::number::NOT_NORMAL;
 use crate::number::Number;
 use crate::number::NumberAnswer;
-use crate::powers::power;
+use crate::powers::power_of_ten;
+use crate::refusal::CheckAnswer;
 use crate::refusal::Refusal;
 
 // Refusal 4: the number exceeds the image.
 pub const EXCEEDS: u8 = 4;
 
-// Whether a number can be truncated under an image, or why not.
-pub enum FitAnswer {
-    Fits,
-    Refused(Refusal),
-}
-
 // A number truncated under an image. The field x holds x + EXPONENT_LIMIT, where x is document 01's stored exponent; it is 0 in fixed point.
-// The image's n digits are the last n of digits. Where the answer is a refusal the truncation is that of zero.
+// The image's n digits are the last n half bytes of halves, the first digit highest. Where the answer is a refusal the truncation is that
+// of zero.
 pub struct Truncation {
-    pub answer: FitAnswer,
+    pub answer: CheckAnswer,
     pub negative: bool,
-    pub digits: [u8; PRECISION],
+    pub halves: u64,
     pub x: usize,
 }
 
@@ -75,7 +69,7 @@ fn exceeds(image: Image, number: Number) -> bool
     if number.mantissa == 0 {
         return false;
     }
-    image.integer < integer_digits(number.exponent)
+    (image.integer as usize) < integer_digits(number.exponent)
 }
 
 // Whether the stored exponent of a number under an exponential image is outside its limits.
@@ -87,42 +81,43 @@ fn exponent_outside(image: Image, number: Number) -> bool
         return false;
     }
     let high = number.exponent + 1;
-    if high < image.integer {
+    let integer = image.integer as usize;
+    if high < integer {
         return true;
     }
-    EXPONENT_TOP < high - image.integer
+    EXPONENT_TOP < high - integer
 }
 
 // The answer of a refused call.
-fn refused(number: u8, place: usize) -> FitAnswer
-    ensures { λ r. ⌜ fitMeaning r ≡ Answer.refused number place ⌝ }
+fn refused(number: u8, place: usize) -> CheckAnswer
+    ensures { λ r. ⌜ checkMeaning r ≡ Answer.refused number place ⌝ }
 {
-    FitAnswer::Refused(Refusal { number, place })
+    CheckAnswer::Refused(Refusal { number, place })
 }
 
 // Whether a number in normal form is within an image's limits: refused with 5 by an exponential image, with 4 by another.
-fn limits(image: Image, number: Number, place: usize) -> FitAnswer
+fn limits(image: Image, number: Number, place: usize) -> CheckAnswer
     requires { ⌜ normal number ≡ true ⌝ }
-    ensures { λ r. ⌜ fitMeaning r ≡ checkedOnly (limited place image number) ⌝ }
+    ensures { λ r. ⌜ checkMeaning r ≡ checkedOnly (limited place image number) ⌝ }
 {
     if image.exponential {
         if exponent_outside(image, number) {
             return refused(EXPONENT_OUTSIDE, place);
         }
-        return FitAnswer::Fits;
+        return CheckAnswer::Fine;
     }
     if exceeds(image, number) {
         return refused(EXCEEDS, place);
     }
-    FitAnswer::Fits
+    CheckAnswer::Fine
 }
 
 // Whether a number can be truncated under an image; refused with 1 or 2 for the image, 3 for the number, 4 or 5 for the two.
-pub fn fit(image: Image, number: Number, place: usize) -> FitAnswer
-    ensures { λ r. ⌜ fitMeaning r ≡ checkedOnly (truncation place image number) ⌝ }
+pub fn fit(image: Image, number: Number, place: usize) -> CheckAnswer
+    ensures { λ r. ⌜ checkMeaning r ≡ checkedOnly (truncation place image number) ⌝ }
 {
     if let ImageAnswer::Refused(refusal) = image.checked(place) {
-        return FitAnswer::Refused(refusal);
+        return CheckAnswer::Refused(refusal);
     }
     if number.is_normal() {
         return limits(image, number, place);
@@ -131,20 +126,20 @@ pub fn fit(image: Image, number: Number, place: usize) -> FitAnswer
 }
 
 // Whether a number can be packed under an image: as fit, and an unsigned exponential image refuses a negative x with 5.
-pub fn fit_packed(image: Image, number: Number, place: usize) -> FitAnswer
-    ensures { λ r. ⌜ fitMeaning r ≡ checkedOnly (packedTruncation place image number) ⌝ }
+pub fn fit_packed(image: Image, number: Number, place: usize) -> CheckAnswer
+    ensures { λ r. ⌜ checkMeaning r ≡ checkedOnly (packedTruncation place image number) ⌝ }
 {
-    if let FitAnswer::Refused(refusal) = fit(image, number, place) {
-        return FitAnswer::Refused(refusal);
+    if let CheckAnswer::Refused(refusal) = fit(image, number, place) {
+        return CheckAnswer::Refused(refusal);
     }
     let sign = image.sign;
     if is_signed(sign) {
-        return FitAnswer::Fits;
+        return CheckAnswer::Fine;
     }
     if stored_exponent(image, number) < EXPONENT_LIMIT {
         return refused(EXPONENT_OUTSIDE, place);
     }
-    FitAnswer::Fits
+    CheckAnswer::Fine
 }
 
 // Whether an image has a sign.
@@ -167,7 +162,7 @@ fn stored_exponent(image: Image, number: Number) -> usize
         return EXPONENT_LIMIT;
     }
     if image.exponential {
-        return number.exponent + 1 - image.integer;
+        return number.exponent + 1 - image.integer as usize;
     }
     EXPONENT_LIMIT
 }
@@ -181,9 +176,9 @@ fn kept_count(image: Image, number: Number) -> usize
         return 0;
     }
     if image.exponential {
-        return image.integer + image.fraction;
+        return image.integer as usize + image.fraction as usize;
     }
-    let end = number.exponent + image.fraction + 1;
+    let end = number.exponent + image.fraction as usize + 1;
     if end < EXPONENT_LIMIT {
         return 0;
     }
@@ -203,47 +198,48 @@ fn keeps_minus(image: Image, number: Number, count: usize) -> bool
     false
 }
 
-// The first count digits of a mantissa, moved to the end; zeros before them.
-fn kept_digits(mantissa: u64, count: usize) -> [u8; PRECISION]
+// The first count digits of a mantissa as the last half bytes of a number; zeros before them.
+fn kept_halves(mantissa: u64, count: usize) -> u64
     requires { ⌜ (mantissa < 10 ^ precision) × (count ≤ precision) ⌝ }
-    ensures { λ r. ⌜ r ≡ digitsOf precision (mantissa / 10 ^ (precision - count)) ⌝ }
+    ensures { λ r. ⌜ r ≡ packedOf (digitsOf precision (mantissa / 10 ^ (precision - count))) ⌝ }
 {
-    let all = digits_of(mantissa);
-    let mut digits = [0u8; PRECISION];
-    let mut i = 0;
-    while i < count {
-        digits[PRECISION - count + i] = all[i];
-        i += 1;
-    }
-    digits
+    packed_digits(mantissa) >> (4 * (PRECISION - count))
 }
 
 // A number truncated under an image: the sign and the digits kept and the stored exponent; refused as fit is.
 pub fn truncate(image: Image, number: Number, place: usize) -> Truncation
     ensures { λ r. ⌜ r ≡ truncationOf (truncation place image number) ⌝ }
 {
-    if let FitAnswer::Refused(refusal) = fit(image, number, place) {
+    if let CheckAnswer::Refused(refusal) = fit(image, number, place) {
         return Truncation {
-            answer: FitAnswer::Refused(refusal),
+            answer: CheckAnswer::Refused(refusal),
             negative: false,
-            digits: [0; PRECISION],
+            halves: 0,
             x: EXPONENT_LIMIT,
         };
     }
     let count = kept_count(image, number);
     Truncation {
-        answer: FitAnswer::Fits,
+        answer: CheckAnswer::Fine,
         negative: keeps_minus(image, number, count),
-        digits: kept_digits(number.mantissa, count),
+        halves: kept_halves(number.mantissa, count),
         x: stored_exponent(image, number),
     }
+}
+
+// A mantissa with all but its first count digits zero.
+fn cut_mantissa(mantissa: u64, count: usize) -> u64
+    requires { ⌜ count ≤ precision ⌝ }
+    ensures { λ r. ⌜ r ≡ mantissa / 10 ^ (precision - count) * 10 ^ (precision - count) ⌝ }
+{
+    mantissa - mantissa % power_of_ten(PRECISION - count)
 }
 
 // A number's truncation under an image as a number; refused as fit is.
 pub fn truncated(image: Image, number: Number, place: usize) -> NumberAnswer
     ensures { λ r. ⌜ numberMeaning r ≡ truncatedNumber place image number ⌝ }
 {
-    if let FitAnswer::Refused(refusal) = fit(image, number, place) {
+    if let CheckAnswer::Refused(refusal) = fit(image, number, place) {
         return NumberAnswer::Refused(refusal);
     }
     let count = kept_count(image, number);
@@ -252,7 +248,7 @@ pub fn truncated(image: Image, number: Number, place: usize) -> NumberAnswer
     }
     NumberAnswer::Number(Number {
         negative: keeps_minus(image, number, count),
-        mantissa: number.mantissa - number.mantissa % power(PRECISION - count),
+        mantissa: cut_mantissa(number.mantissa, count),
         exponent: number.exponent,
     })
 }

@@ -12,15 +12,12 @@ use lib.Dec.{eqb, leb}
 use lib.ListN.{length, take, drop, getD, drop-of-length-le, length-drop}
 use lib.Seq.{drop-cons, drop-drop, length-take-le}
 use borrow.Author.Tests.{eq-eqb, ne-eqb, lt-ltb, le-ltb, le-leb, lt-leb}
-use Rattle.decimal.specs.declared.image.Scan.{Scan}
-use Rattle.decimal.specs.declared.image.State.{State}
-use Rattle.decimal.specs.declared.image.State.the-variants.{Start}
+use Rattle.decimal.specs.Image.{State, Start}
 use Rattle.decimal.specs.declared.number.Number.{Number}
-use Rattle.decimal.specs.Answer.{Answer, done, refused, _then_, pick}
+use Rattle.decimal.specs.Answer.{Answer, done, refused, _then_, pick, checkedOnly}
 use Rattle.decimal.specs.Digits.{precision}
 use Rattle.decimal.specs.Number.{normal, zeroNumber}
-use Rattle.decimal.specs.Truncation.{checkedOnly}
-use Rattle.decimal.specs.Image.{hashes, scannedImage, scanOf, nextState, integerHash, fractionHash, counted, integersFrom, fractionsFrom}
+use Rattle.decimal.specs.Image.{hashes, scannedImage, nextState, integerHash, fractionHash, counted, integersFrom, fractionsFrom}
 use Rattle.decimal.proofs.DigitLaws.{le-or-lt}
 use Rattle.decimal.proofs.BoolLaws.{zero-or-not}
 use Rattle.decimal.proofs.ImageLaws.{hash-once}
@@ -152,7 +149,7 @@ check-many index (b ∷ bs) e h =
     rw (ne-eqb (fieldLength (b ∷ bs)) 0 e, lt-ltb precision (hashes (scannedImage (take (fieldLength (b ∷ bs)) (b ∷ bs)))) h)
 
 -- a nonempty beginning passed over
-drop-pred : (n b : ℕ) (bs : List ℕ) → (n ≡ 0 → ⊥) → drop (pred n) bs ≡ drop n (b ∷ bs)
+pub drop-pred : (n b : ℕ) (bs : List ℕ) → (n ≡ 0 → ⊥) → drop (pred n) bs ≡ drop n (b ∷ bs)
 drop-pred zero b bs h = absurd (h refl)
 drop-pred (suc n) b bs h = refl
 
@@ -185,14 +182,14 @@ few-hashes index bs e h =
     (le-or-lt (hashes (scannedImage (take (fieldLength bs) bs))) precision)
 
 -- where there is a literal byte, the place is inside the line
-some-literal : (line : List ℕ) (k n : ℕ) → length (literals (drop k line)) ≡ suc n → k < length line
+pub some-literal : (line : List ℕ) (k n : ℕ) → length (literals (drop k line)) ≡ suc n → k < length line
 some-literal line k n e =
     let i : length (literals (drop k line)) ≤ length (drop k line) = literals-inside (drop k line) in
     let l : length (drop k line) ≡ length line - k = length-drop k line in
     omega arith
 
 -- and no field stands there
-literal-first : (bs : List ℕ) (n : ℕ) → length (literals bs) ≡ suc n → fieldLength bs ≡ 0
+pub literal-first : (bs : List ℕ) (n : ℕ) → length (literals bs) ≡ suc n → fieldLength bs ≡ 0
 literal-first bs n e =
     ⊎-elim (λ z. z) (λ z. let none = literals-field bs z in absurd (omega arith)) (zero-or-not (fieldLength bs))
 
@@ -201,23 +198,6 @@ pub field-inside : (line : List ℕ) (k : ℕ) → k ≤ length line → k + fie
 field-inside line k h =
     let i : fieldLength (drop k line) ≤ length (drop k line) = longest-field (drop k line) .inside in
     let l : length (drop k line) ≡ length line - k = length-drop k line in
-    omega arith
-
--- what the code reads of a field is the field's own
-pub field-scanned : (line : List ℕ) (k r : ℕ) (s : Scan) → r ≡ fieldLength (drop k line) → s ≡ scanOf (take (k + r - k) (drop k line))
-    → hashes (s .image) ≡ hashes (scannedImage (take (fieldLength (drop k line)) (drop k line)))
-field-scanned line k r s e h =
-    let n : k + r - k ≡ fieldLength (drop k line) = omega arith in
-    ap (λ (x : Scan). hashes (x .image)) h ∙ ap (λ (m : ℕ). hashes (scannedImage (take m (drop k line)))) n
-
--- and no more # signs than bytes
-pub field-few : (line : List ℕ) (k r : ℕ) (s : Scan) → r ≡ fieldLength (drop k line) → s ≡ scanOf (take (k + r - k) (drop k line))
-    → hashes (s .image) ≤ r
-field-few line k r s e h =
-    let same = field-scanned line k r s e h in
-    let few = hashes-few (take (fieldLength (drop k line)) (drop k line)) in
-    let all : length (take (fieldLength (drop k line)) (drop k line)) ≡ fieldLength (drop k line) =
-    length-take-le (fieldLength (drop k line)) (drop k line) (longest-field (drop k line) .inside) in
     omega arith
 
 -- Places of a line.

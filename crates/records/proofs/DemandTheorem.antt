@@ -18,8 +18,8 @@ use Rattle.decimal.specs.Image.{hashes, imageBytes, IsImage, scannedImage}
 use Rattle.decimal.specs.Truncation.{Truncated, truncation, numberOf, truncatedNumber}
 use Rattle.decimal.proofs.ImageLaws.{scanned-complete, reads-image}
 use Rattle.decimal.proofs.TruncationLaws.{truncation-fit}
-use Rattle.codec.specs.Contents.{signCount}
-use Rattle.codec.specs.Body.{bodyOf}
+use Rattle.codec.specs.Columns.{signCount}
+use Rattle.codec.specs.Packing.{bodyOf}
 use Rattle.codec.specs.Order.{Truncations, none, one}
 use Rattle.codec.specs.Alpha.{alphaText, alphaUnder, alphaOf, alphaTexts, fractionLength, exponentLength, tailLength, textLength}
 use Rattle.codec.specs.Text.{readTexts}
@@ -30,7 +30,7 @@ use Rattle.codec.proofs.OrderTheorem.{contents-order, contents-equality}
 use Rattle.codec.proofs.ReadBackTheorem.{contents-read-back}
 use Rattle.records.specs.declared.fields.Element.the-variants as element
 use Rattle.records.specs.Scanning.{fieldLength}
-use Rattle.records.specs.Fields.{shownIn, numberIn, orField, spilledBy, elementBytes, elementSpills, readField}
+use Rattle.records.specs.Fields.{shownIn, numberMarked, numberIn, orField, spilledBy, elementBytes, elementSpills, readField}
 use Rattle.records.specs.Printing.{maxLine, literals, firstField, behindField, hasField, Print, andThen, oneField, printFrom}
 use Rattle.records.specs.Printing.{checkFields, checkElement, checkElements, checkSome, checkCounts, printed}
 use Rattle.records.specs.Demand.{printField, printFields, readFields, NoneSpilled, ReadBack, Demand3}
@@ -133,7 +133,7 @@ image-short im =
 -- a number that is truncated, in the field of an image
 image-number : (im : Image) → 0 < hashes im → (n : Number) {t : Truncated} → truncation 0 im n ≡ done t
     → numberIn (imageBytes im) n ≡ done (shownIn (imageBytes im) im t)
-unfolding numberIn _then_
+unfolding numberMarked _then_
 image-number im some n h = rw (scanned-complete im some .1, h)
 
 -- Published: the print field of a number that an image truncates is the number shown in the image, and is not spilled.

@@ -8,34 +8,35 @@ use mathlib.Core.List.{List, [], _∷_, _++_, append-assoc, append-nil}
 use mathlib.Core.Logic.{⊎-elim}
 use mathlib.Core.Bool.{Bool, true, false, not, _&&_}
 use lib.Dec.{ltb, eqb}
-use lib.ListN.{length, take, drop, getD, length-drop, drop-of-length-le}
+use lib.ListN.{length, take, drop, getD, length-drop, drop-of-length-le, take-append-drop}
 use lib.Seq.{drop-cons, drop-drop, take-length}
 use borrow.Author.Tests.{eq-eqb, ne-eqb, lt-leb}
 use Rattle.decimal.specs.declared.image.Sign.{Sign}
 use Rattle.decimal.specs.declared.image.Sign.the-variants.{Unsigned, Plus, Minus}
 use Rattle.decimal.specs.declared.image.Image.{Image}
 use Rattle.decimal.specs.declared.number.Number.{Number}
-use Rattle.decimal.specs.Answer.{Answer, done, refused, _then_, pick}
+use Rattle.decimal.specs.Answer.{Answer, done, refused, _then_, pick, checkedOnly}
 use Rattle.decimal.specs.Digits.{digitsOf}
 use Rattle.decimal.specs.Number.{normal}
-use Rattle.decimal.specs.Image.{hashByte, pointByte, commaByte, hashes, times, signBytes, fractionBytes, upBytes, imageBytes, scannedImage, IsImage, readImage}
-use Rattle.decimal.specs.Truncation.{Truncated, truncation, checkedOnly}
+use Rattle.decimal.specs.Image.{hashByte, pointByte, commaByte, hashes, times, signBytes, fractionBytes, upBytes, imageBytes, scannedImage, IsImage}
+use Rattle.decimal.specs.Truncation.{Truncated, truncation}
 use Rattle.decimal.proofs.DigitLaws.{digit-below, digits-are-digits, le-or-lt}
-use Rattle.decimal.proofs.ImageLaws.{reads-image}
-use Rattle.codec.specs.Lists.{storedIn}
-use Rattle.codec.specs.Body.{written}
-use Rattle.codec.specs.Alpha.{alphaText, alphaOf, blankByte, zeroByte}
+use Rattle.codec.specs.Answers.{storedIn, written, sized}
+use Rattle.codec.specs.Alpha.{alphaText, textLength, convertingUnder, blankByte, zeroByte}
 use Rattle.codec.proofs.ListLaws.{filled-length}
 use Rattle.decimal.proofs.AnswerLaws.{never-done}
-use Rattle.codec.proofs.AlphaLaws.{text-length, image-length, alpha-done}
+use Rattle.codec.proofs.AlphaLaws.{text-length, image-length, under-refused, under-done, converting-under-refused, converting-under-done}
 use Rattle.records.specs.declared.fields.Fill.{Fill}
 use Rattle.records.specs.declared.fields.Element.{Element}
 use Rattle.records.specs.declared.fields.Element.the-variants as element
 use Rattle.records.specs.Scanning.{Field, runBytes, fieldBytes, total, IsField}
-use Rattle.records.specs.Fields.{nextDigit, suppressed, signByteOf, fillByte, fillNext, fillBytes, nothingFilled, shownIn, numberIn, orField, spilledBy}
+use Rattle.records.specs.declared.marks.Marks.{Marks}
+use Rattle.records.specs.Marks.{documentMarks, withDecimal}
+use Rattle.records.specs.Fields.{nextDigit, suppressed, signByteOf, fillByte, fillNext, fillBytes, nothingFilled, shownMarked, numberMarked, orField, spilledBy}
 use Rattle.records.specs.Fields.{textIn, elementBytes, FieldReady, hashCount}
 use Rattle.records.specs.Printing.{checkElement}
 use Rattle.records.proofs.FieldTheorem.{field-image}
+use Rattle.records.proofs.MarkLaws.{decimal-length}
 
 -- a byte of a list is the same for another default
 pub getD-same : (l : List ℕ) (j d e : ℕ) → j < length l → getD l j d ≡ getD l j e
@@ -67,13 +68,21 @@ stored-part b start k s part h e stored =
     ∙ ap (λ (l : List ℕ). take start b ++ l) (append-nil part ∙ stored ∙ ap (λ (l : List ℕ). s ++ l) tail)
     ∙ sym (append-assoc (take start b) s (drop (start + length s) b))
 
+-- the part as it was, put back
+pub part-back : (b : List ℕ) (start k : ℕ) (part : List ℕ) → start ≤ length b → k ≡ length b - start → part ≡ take k (drop start b)
+    → take start b ++ (part ++ drop k (drop start b)) ≡ b
+part-back b start k part h e same =
+    ap (λ (l : List ℕ). take start b ++ (l ++ drop k (drop start b))) same
+    ∙ ap (λ (l : List ℕ). take start b ++ l) (take-append-drop k (drop start b))
+    ∙ take-append-drop start b
+
 -- Digits.
 
 -- a digit is below ten
 pub next-digit-below : (im : Image) (t : Truncated) (fill : Fill) → nextDigit im t fill < 10
 next-digit-below im t fill = digit-below (digitsOf (hashes im) (t .whole)) (digits-are-digits (hashes im) (t .whole)) (fill .used)
 
--- whether it is a leading zero that becomes a blank, as the code finds
+-- whether it is a leading zero that becomes the filling byte, as the code finds
 pub suppressed-by :
     (im : Image) (t : Truncated) (fill : Fill) {digit : ℕ} {r : Bool}
     → digit ≡ nextDigit im t fill
@@ -83,36 +92,47 @@ suppressed-by im t fill e h = sym (h ∙ ap (λ (d : ℕ). not (fill .shown) && 
 
 -- What stands for a byte, and what was filled then.
 
-module _ (im : Image) (t : Truncated) (fill : Fill) {b : ℕ} where
+module _ (m : Marks) (im : Image) (t : Truncated) (fill : Fill) {b : ℕ} where
   -- a zero that is not shown
-  pub fill-blank : b ≡ hashByte → suppressed im t fill ≡ true → blankByte ≡ fillByte im t fill b
+  pub fill-blank : b ≡ hashByte → suppressed im t fill ≡ true → m .filling ≡ fillByte m im t fill b
   unfolding fillByte
-  fill-blank e h = sym (ap (fillByte im t fill) e ∙ ap (λ (c : Bool). pick c blankByte (zeroByte + nextDigit im t fill)) h)
+  fill-blank e h = sym (ap (fillByte m im t fill) e ∙ ap (λ (c : Bool). pick c (m .filling) (zeroByte + nextDigit im t fill)) h)
 
   -- a digit
-  pub fill-digit : b ≡ hashByte → suppressed im t fill ≡ false → zeroByte + nextDigit im t fill ≡ fillByte im t fill b
+  pub fill-digit : b ≡ hashByte → suppressed im t fill ≡ false → zeroByte + nextDigit im t fill ≡ fillByte m im t fill b
   unfolding fillByte
-  fill-digit e h = sym (ap (fillByte im t fill) e ∙ ap (λ (c : Bool). pick c blankByte (zeroByte + nextDigit im t fill)) h)
+  fill-digit e h = sym (ap (fillByte m im t fill) e ∙ ap (λ (c : Bool). pick c (m .filling) (zeroByte + nextDigit im t fill)) h)
 
   -- a comma
-  pub fill-comma : b ≡ commaByte → pick (fill .shown) commaByte blankByte ≡ fillByte im t fill b
+  pub fill-comma : b ≡ commaByte → pick (fill .shown) (m .thousands) (m .filling) ≡ fillByte m im t fill b
   unfolding fillByte
-  fill-comma e = sym (ap (fillByte im t fill) e)
+  fill-comma e = sym (ap (fillByte m im t fill) e)
 
   -- the point
-  pub fill-point : b ≡ pointByte → pointByte ≡ fillByte im t fill b
+  pub fill-point : b ≡ pointByte → m .decimal ≡ fillByte m im t fill b
   unfolding fillByte
-  fill-point e = sym (ap (fillByte im t fill) e)
+  fill-point e = sym (ap (fillByte m im t fill) e)
 
   -- the sign
-  pub fill-sign : (b ≡ hashByte → ⊥) → (b ≡ commaByte → ⊥) → (b ≡ pointByte → ⊥) → signByteOf b (t .negative) ≡ fillByte im t fill b
+  pub fill-sign : (b ≡ hashByte → ⊥) → (b ≡ commaByte → ⊥) → (b ≡ pointByte → ⊥) → signByteOf b (t .negative) ≡ fillByte m im t fill b
   unfolding fillByte
   fill-sign h k p = rw (ne-eqb b hashByte h, ne-eqb b commaByte k, ne-eqb b pointByte p)
 
-  -- behind a #
-  pub next-hash : b ≡ hashByte → record { shown = not (suppressed im t fill); used = fill .used + 1 } ≡ fillNext im t fill b
+module _ (im : Image) (t : Truncated) (fill : Fill) {b : ℕ} where
+  -- whether a digit was shown behind a #
+  pub shown-hash : b ≡ hashByte → fillNext im t fill b .shown ≡ not (suppressed im t fill)
   unfolding fillNext
-  next-hash e = sym (ap (fillNext im t fill) e)
+  shown-hash e = ap (λ (c : ℕ). fillNext im t fill c .shown) e
+
+  -- and behind a comma
+  pub shown-comma : b ≡ commaByte → fillNext im t fill b .shown ≡ fill .shown
+  unfolding fillNext
+  shown-comma e = ap (λ (c : ℕ). fillNext im t fill c .shown) e
+
+  -- behind a #
+  pub next-hash : b ≡ hashByte → {hidden : Bool} → suppressed im t fill ≡ hidden → record { shown = not hidden; used = fill .used + 1 } ≡ fillNext im t fill b
+  unfolding fillNext
+  next-hash e h = sym (ap (fillNext im t fill) e ∙ ap (λ (c : Bool). record { shown = not c; used = fill .used + 1 }) h)
 
   -- behind the point
   pub next-point : b ≡ pointByte → record { shown = true; used = fill .used } ≡ fillNext im t fill b
@@ -127,20 +147,20 @@ module _ (im : Image) (t : Truncated) (fill : Fill) {b : ℕ} where
 -- Filling.
 
 -- a filled field keeps its length
-pub fill-length : (im : Image) (t : Truncated) (fill : Fill) (bs : List ℕ) → length (fillBytes im t fill bs) ≡ length bs
+pub fill-length : (m : Marks) (im : Image) (t : Truncated) (fill : Fill) (bs : List ℕ) → length (fillBytes m im t fill bs) ≡ length bs
 unfolding fillBytes
-fill-length im t fill [] = refl
-fill-length im t fill (b ∷ bs) = ap suc (fill-length im t (fillNext im t fill b) bs)
+fill-length m im t fill [] = refl
+fill-length m im t fill (b ∷ bs) = ap suc (fill-length m im t (fillNext im t fill b) bs)
 
 -- the field is filled up to a byte: what is still to come, and the digits that are left for it
-pub record Filling (im : Image) (t : Truncated) (field : List ℕ) (fill : Fill) (j : ℕ) : Type 0 where
+pub record Filling (m : Marks) (im : Image) (t : Truncated) (field : List ℕ) (fill : Fill) (j : ℕ) : Type 0 where
   pub inside : j ≤ length field
-  pub rest : drop j (fillBytes im t nothingFilled field) ≡ fillBytes im t fill (drop j field)
+  pub rest : drop j (fillBytes m im t nothingFilled field) ≡ fillBytes m im t fill (drop j field)
   pub left : fill .used + hashCount (drop j field) ≤ hashes im
 
 -- at the field's start
-pub filling-starts : (im : Image) (t : Truncated) (field : List ℕ) → hashCount field ≤ hashes im → Filling im t field nothingFilled 0
-filling-starts im t field h = record { inside = omega arith; rest = refl; left = omega arith }
+pub filling-starts : (m : Marks) (im : Image) (t : Truncated) (field : List ℕ) → hashCount field ≤ hashes im → Filling m im t field nothingFilled 0
+filling-starts m im t field h = record { inside = omega arith; rest = refl; left = omega arith }
 
 -- the # signs from a byte on
 count-cons : (field : List ℕ) (j : ℕ) → j < length field
@@ -163,22 +183,22 @@ used-next : (im : Image) (t : Truncated) (fill : Fill) (b : ℕ) → fillNext im
 unfolding fillNext
 used-next im t fill b = picked-used (eqb b hashByte) _ _ ∙ picked-more (eqb b hashByte) (fill .used)
 
-module _ {im : Image} {t : Truncated} {field : List ℕ} {fill : Fill} {j : ℕ} (f : Filling im t field fill j) (h : j < length field) where
+module _ {m : Marks} {im : Image} {t : Truncated} {field : List ℕ} {fill : Fill} {j : ℕ} (f : Filling m im t field fill j) (h : j < length field) where
   -- what is still to come from a byte on
   rest-cons :
-      drop j (fillBytes im t nothingFilled field)
-      ≡ fillByte im t fill (getD field j 0) ∷ fillBytes im t (fillNext im t fill (getD field j 0)) (drop (suc j) field)
+      drop j (fillBytes m im t nothingFilled field)
+      ≡ fillByte m im t fill (getD field j 0) ∷ fillBytes m im t (fillNext im t fill (getD field j 0)) (drop (suc j) field)
   unfolding fillBytes
-  rest-cons = f .rest ∙ ap (fillBytes im t fill) (drop-cons field j 0 h)
+  rest-cons = f .rest ∙ ap (fillBytes m im t fill) (drop-cons field j 0 h)
 
   -- and of what is filled
   whole-cons :
-      drop j (fillBytes im t nothingFilled field)
-      ≡ getD (fillBytes im t nothingFilled field) j 0 ∷ drop (suc j) (fillBytes im t nothingFilled field)
-  whole-cons = drop-cons (fillBytes im t nothingFilled field) j 0 (omega (arith, fill-length im t nothingFilled field))
+      drop j (fillBytes m im t nothingFilled field)
+      ≡ getD (fillBytes m im t nothingFilled field) j 0 ∷ drop (suc j) (fillBytes m im t nothingFilled field)
+  whole-cons = drop-cons (fillBytes m im t nothingFilled field) j 0 (omega (arith, fill-length m im t nothingFilled field))
 
   -- the next byte
-  pub filling-byte : fillByte im t fill (getD field j 0) ≡ getD (fillBytes im t nothingFilled field) j 0
+  pub filling-byte : fillByte m im t fill (getD field j 0) ≡ getD (fillBytes m im t nothingFilled field) j 0
   filling-byte = ap (λ (l : List ℕ). getD l 0 0) (sym rest-cons ∙ whole-cons)
 
   -- a digit is left for a #
@@ -188,7 +208,7 @@ module _ {im : Image} {t : Truncated} {field : List ℕ} {fill : Fill} {j : ℕ}
       omega (arith, f .left, count-cons field j h)
 
   -- one byte more
-  pub filling-turns : Filling im t field (fillNext im t fill (getD field j 0)) (j + 1)
+  pub filling-turns : Filling m im t field (fillNext im t fill (getD field j 0)) (j + 1)
   filling-turns =
       rw (add-one j)
       (record {
@@ -284,102 +304,143 @@ exponential-image {field} {f} is e =
       nonempty = omega (arith, is .nonempty, ap hashes same);
     }
 
--- it is read as an image
-pub exponential-read : {field : List ℕ} (ready : FieldReady field) → scannedImage field .exponential ≡ true → readImage 0 field ≡ done (scannedImage field)
-exponential-read ready e = reads-image 0 (exponential-image (ready .is-field) e) (ready .fits)
+-- A number under the image of an exponential field, into a buffer with room for the field.
+
+-- it is refused, and nothing is written
+pub record NotConverted (im : Image) (n : Number) (room : ℕ) : Type 0 where
+  pub number : ℕ
+  pub place : ℕ
+  pub truncated : truncation 0 im n ≡ refused number place
+  pub converted : convertingUnder im n room ≡ refused number place
+
+-- or its alpha text is
+pub record Converted (im : Image) (n : Number) (room : ℕ) : Type 0 where
+  pub to : Truncated
+  pub truncated : truncation 0 im n ≡ done to
+  pub converted : convertingUnder im n room ≡ done (alphaText im to)
+
+module _ {field : List ℕ} (ready : FieldReady field) {im : Image} (same : im ≡ scannedImage field) (e : im .exponential ≡ true) (n : Number) {room : ℕ} (fits : length field ≤ room) where
+  -- a text has the field's length
+  pub exponential-length : textLength im ≡ length field
+  exponential-length =
+      let image = exponential-image (ready .is-field) (sym (ap (λ (i : Image). i .exponential) same) ∙ e) in
+      ap textLength same ∙ sym (ap length (image .rendered) ∙ image-length (scannedImage field))
+
+  -- so that there is room for it
+  text-converted : {t : Truncated} → truncation 0 im n ≡ done t → convertingUnder im n room ≡ done (alphaText im t)
+  text-converted {t} h = converting-under-done im n room (under-done im n h) (omega (arith, text-length im t, exponential-length))
+
+  -- a number is refused where it is not truncated
+  pub not-converted : {number place : ℕ} → refused number place ≡ sized (convertingUnder im n room) → NotConverted im n room
+  unfolding sized
+  not-converted {number} {place} h = go (truncation 0 im n) refl
+    where
+      go : (a : Answer Truncated) → truncation 0 im n ≡ a → NotConverted im n room
+      go (done t) k = never-done {number = number} {place = place} (h ∙ ap sized (text-converted k))
+      go (refused x y) k = record { number = x; place = y; truncated = k; converted = converting-under-refused im n room (under-refused im n k) }
+
+  -- else its text is written
+  pub is-converted : {size : ℕ} → done size ≡ sized (convertingUnder im n room) → Converted im n room
+  unfolding sized
+  is-converted {size} h = go (truncation 0 im n) refl
+    where
+      go : (a : Answer Truncated) → truncation 0 im n ≡ a → Converted im n room
+      go (done t) k = record { to = t; truncated = k; converted = text-converted k }
+      go (refused x y) k = never-done {number = x} {place = y} (sym (ap sized (converting-under-refused im n room (under-refused im n k))) ∙ sym h)
 
 -- What a number prints.
 
 -- its text, or the filled field
-shown-length : {field : List ℕ} {f : Field} → IsField field f → (t : Truncated) → length (shownIn field (scannedImage field) t) ≡ length field
-unfolding shownIn
-shown-length {field} is t = go (scannedImage field .exponential) refl
+shown-length : (m : Marks) {field : List ℕ} {f : Field} → IsField field f → (t : Truncated) → length (shownMarked m field (scannedImage field) t) ≡ length field
+unfolding shownMarked
+shown-length m {field} is t = go (scannedImage field .exponential) refl
   where
     go : (e : Bool) → scannedImage field .exponential ≡ e
-        → length (pick e (alphaText (scannedImage field) t) (fillBytes (scannedImage field) t nothingFilled field)) ≡ length field
+        → length (pick e (withDecimal m (alphaText (scannedImage field) t)) (fillBytes m (scannedImage field) t nothingFilled field)) ≡ length field
     go true e =
-        text-length (scannedImage field) t
+        decimal-length m (alphaText (scannedImage field) t)
+        ∙ text-length (scannedImage field) t
         ∙ sym (ap length (exponential-image is e .rendered) ∙ image-length (scannedImage field))
-    go false e = fill-length (scannedImage field) t nothingFilled field
+    go false e = fill-length m (scannedImage field) t nothingFilled field
 
 -- its length
-number-length : {field : List ℕ} {f : Field} → IsField field f → (n : Number) → length (orField field (numberIn field n)) ≡ length field
-unfolding numberIn _then_ orField
-number-length {field} is n = go (truncation 0 (scannedImage field) n)
+number-length : (m : Marks) {field : List ℕ} {f : Field} → IsField field f → (n : Number) → length (orField field (numberMarked m field n)) ≡ length field
+unfolding numberMarked _then_ orField
+number-length m {field} is n = go (truncation 0 (scannedImage field) n)
   where
-    go : (a : Answer Truncated) → length (orField field (a then λ t. done (shownIn field (scannedImage field) t))) ≡ length field
-    go (done t) = shown-length is t
+    go : (a : Answer Truncated) → length (orField field (a then λ t. done (shownMarked m field (scannedImage field) t))) ≡ length field
+    go (done t) = shown-length m is t
     go (refused number place) = refl
 
 -- Published: an element prints as many bytes as the field has.
 pub element-length : {field : List ℕ} {f : Field} → IsField field f → (texts : List ℕ) (e : Element) → length (elementBytes texts field e) ≡ length field
 unfolding elementBytes textIn
-element-length is texts (element.Number n) = number-length is n
+element-length is texts (element.Number n) = number-length documentMarks is n
 element-length {field} is texts (element.Text start size) = filled-length blankByte (length field) (take size (drop start texts))
 
 -- Spilled or not.
 
-module _ (field : List ℕ) (n : Number) where
+module _ (m : Marks) (field : List ℕ) (n : Number) where
   -- a number that is refused prints the field
-  pub number-refused : {number place : ℕ} → truncation 0 (scannedImage field) n ≡ refused number place → orField field (numberIn field n) ≡ field
-  unfolding numberIn _then_ orField
+  pub number-refused : {number place : ℕ} → truncation 0 (scannedImage field) n ≡ refused number place → orField field (numberMarked m field n) ≡ field
+  unfolding numberMarked _then_ orField
   number-refused h =
-      ap (λ (a : Answer Truncated). orField field (a then λ t. done (shownIn field (scannedImage field) t))) h
+      ap (λ (a : Answer Truncated). orField field (a then λ t. done (shownMarked m field (scannedImage field) t))) h
 
   -- any other is shown
-  pub number-shown : {t : Truncated} → truncation 0 (scannedImage field) n ≡ done t → orField field (numberIn field n) ≡ shownIn field (scannedImage field) t
-  unfolding numberIn _then_ orField
+  pub number-shown : {t : Truncated} → truncation 0 (scannedImage field) n ≡ done t → orField field (numberMarked m field n) ≡ shownMarked m field (scannedImage field) t
+  unfolding numberMarked _then_ orField
   number-shown h =
-      ap (λ (a : Answer Truncated). orField field (a then λ t. done (shownIn field (scannedImage field) t))) h
+      ap (λ (a : Answer Truncated). orField field (a then λ t. done (shownMarked m field (scannedImage field) t))) h
 
   -- in fixed point it fills the field
   pub number-fixed :
       {t : Truncated}
       → truncation 0 (scannedImage field) n ≡ done t
       → scannedImage field .exponential ≡ false
-      → orField field (numberIn field n) ≡ fillBytes (scannedImage field) t nothingFilled field
-  unfolding shownIn
+      → orField field (numberMarked m field n) ≡ fillBytes m (scannedImage field) t nothingFilled field
+  unfolding shownMarked
   number-fixed h e = number-shown h ∙ rw e
 
-  -- in exponential form it prints as alpha text
+  -- in exponential form it prints as alpha text, with the decimal mark
   pub number-alpha :
       {t : Truncated}
       → truncation 0 (scannedImage field) n ≡ done t
       → scannedImage field .exponential ≡ true
-      → orField field (numberIn field n) ≡ alphaText (scannedImage field) t
-  unfolding shownIn
+      → orField field (numberMarked m field n) ≡ withDecimal m (alphaText (scannedImage field) t)
+  unfolding shownMarked
   number-alpha h e = number-shown h ∙ rw e
 
-  -- which is the text under the field as an image
-  pub number-alpha-of :
-      {t : Truncated}
-      → FieldReady field
-      → truncation 0 (scannedImage field) n ≡ done t
-      → scannedImage field .exponential ≡ true
-      → alphaOf field n ≡ done (orField field (numberIn field n))
-  number-alpha-of ready h e =
-      alpha-done field n (scannedImage field) (exponential-read ready e) h ∙ ap {B = Answer (List ℕ)} done (sym (number-alpha h e))
-
   -- a number that fits is not spilled
-  pub spilled-not : done tt ≡ checkedOnly (truncation 0 (scannedImage field) n) → false ≡ eqb (spilledBy (numberIn field n)) 1
-  unfolding checkedOnly numberIn _then_ spilledBy
+  pub spilled-not : done tt ≡ checkedOnly (truncation 0 (scannedImage field) n) → false ≡ eqb (spilledBy (numberMarked m field n)) 1
+  unfolding checkedOnly numberMarked _then_ spilledBy
   spilled-not h = go (truncation 0 (scannedImage field) n) h
     where
       go : (a : Answer Truncated) → done tt ≡ checkedOnly a
-          → false ≡ eqb (spilledBy (a then λ t. done (shownIn field (scannedImage field) t))) 1
+          → false ≡ eqb (spilledBy (a then λ t. done (shownMarked m field (scannedImage field) t))) 1
       go (done t) e = refl
       go (refused number place) e = let z : _≡_ {A = ℕ} 0 1 = cc in absurd (omega arith)
 
   -- a number that is refused is
   pub spilled-is :
-      {number place : ℕ} → refused number place ≡ checkedOnly (truncation 0 (scannedImage field) n) → true ≡ eqb (spilledBy (numberIn field n)) 1
-  unfolding checkedOnly numberIn _then_ spilledBy
+      {number place : ℕ} → refused number place ≡ checkedOnly (truncation 0 (scannedImage field) n) → true ≡ eqb (spilledBy (numberMarked m field n)) 1
+  unfolding checkedOnly numberMarked _then_ spilledBy
   spilled-is {number} {place} h = go (truncation 0 (scannedImage field) n) h
     where
       go : (a : Answer Truncated) → refused number place ≡ checkedOnly a
-          → true ≡ eqb (spilledBy (a then λ t. done (shownIn field (scannedImage field) t))) 1
+          → true ≡ eqb (spilledBy (a then λ t. done (shownMarked m field (scannedImage field) t))) 1
       go (done t) e = let z : _≡_ {A = ℕ} 0 1 = cc in absurd (omega arith)
       go (refused x y) e = refl
+
+-- Published: whether a number is spilled does not depend on the marks.
+pub spilled-any : (m k : Marks) (field : List ℕ) (n : Number) → spilledBy (numberMarked m field n) ≡ spilledBy (numberMarked k field n)
+unfolding numberMarked _then_ spilledBy
+spilled-any m k field n = go (truncation 0 (scannedImage field) n)
+  where
+    go : (a : Answer Truncated)
+        → spilledBy (a then λ t. done (shownMarked m field (scannedImage field) t)) ≡ spilledBy (a then λ t. done (shownMarked k field (scannedImage field) t))
+    go (done t) = refl
+    go (refused number place) = refl
 
 -- What an element may be.
 

@@ -8,8 +8,7 @@ use mathlib.Core.Bool.{Bool, true, false}
 use lib.ListN.{length}
 use Rattle.decimal.specs.declared.image.Sign.{Sign}
 use Rattle.decimal.specs.declared.image.Sign.the-variants.{Unsigned, Plus, Minus}
-use Rattle.decimal.specs.declared.image.State.{State}
-use Rattle.decimal.specs.declared.image.State.the-variants.{Start, Signed, Integer, Comma, Point, Fraction}
+use Rattle.decimal.specs.Image.{State, Start, Signed, Integer, Comma, Point, Fraction}
 use Rattle.decimal.specs.Image.{plusByte, minusByte, hashByte, pointByte, commaByte, signBytes, times, fractionBytes, upBytes}
 use Rattle.decimal.specs.Image.{nextState, runState, isExponential, integerHash, fractionHash, counted, integersFrom, fractionsFrom, leadingSign}
 use Rattle.records.specs.Scanning.{runBytes, Positive, total, isField}

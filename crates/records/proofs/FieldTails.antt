@@ -5,34 +5,28 @@ use native.Mathlib.Omega.{arith}
 use mathlib.Core.Path.{_≡_, refl, ap, sym, _∙_, subst}
 use mathlib.Core.List.{List, [], _∷_, _++_}
 use mathlib.Core.Bool.{Bool, true, false, false≢true}
-use lib.Dec.{ltb}
 use lib.ListN.{length}
-use borrow.Author.Tests.{eqb-true, ltb-true}
 use Rattle.decimal.specs.declared.image.Sign.{Sign}
 use Rattle.decimal.specs.declared.image.Sign.the-variants.{Unsigned, Plus, Minus}
-use Rattle.decimal.specs.declared.image.State.{State}
-use Rattle.decimal.specs.declared.image.State.the-variants.{Start, Signed, Integer, Comma, Point, Fraction, Up, Stopped}
+use Rattle.decimal.specs.Image.{State, Start, Signed, Integer, Comma, Point, Fraction, Up, Stopped}
 use Rattle.decimal.specs.Answer.{pick}
 use Rattle.decimal.specs.Image.{hashByte, pointByte, commaByte, upByte, ups, signBytes, times, fractionBytes, upBytes, nextState, runState}
-use Rattle.decimal.proofs.ImageTails.{ByteView, isPlus, isMinus, isHash, isPoint, isComma, isUp, isOther, view}
+use Rattle.decimal.proofs.ImageTails.{ByteView, isPlus, isMinus, isHash, isPoint, isComma, isUp, isOther, view, stopped-rejects, ups-behind}
 use Rattle.records.specs.Scanning.{Field, runBytes, fieldBytes, Positive, total, IsField, isField}
-use Rattle.records.proofs.ScanLaws.{stopped-stays}
 
 -- The machine that stopped.
 
--- no byte leads on
-stopped-runs : (bs : List ℕ) → runState Stopped bs ≡ Stopped
-unfolding runState
-stopped-runs [] = refl
-stopped-runs (b ∷ bs) = rw (stopped-stays b, stopped-runs bs)
-
--- so that there is no field
+-- no field is found from there on
 halted : {A : Type 0} (bs : List ℕ) → isField (runState Stopped bs) ≡ true → A
-halted bs h = absurd (false≢true (sym (ap isField (stopped-runs bs)) ∙ h))
+halted bs h = stopped-rejects isField refl bs h
 
 -- the same of a state that is this one
 halted-by : {A : Type 0} {s : State} (bs : List ℕ) → s ≡ Stopped → isField (runState s bs) ≡ true → A
 halted-by bs e h = halted bs (subst (λ (s : State). isField (runState s bs) ≡ true) e h)
+
+-- behind n of the 5E bytes stand the others
+up-tail : (n : ℕ) (bs : List ℕ) → isField (runState (Up n) bs) ≡ true → bs ≡ times (ups - n) upByte
+up-tail = ups-behind isField refl (λ n. refl)
 
 -- Which kinds go on: a field with a comma is fixed point.
 
@@ -42,37 +36,6 @@ pub data Kind : (grouped exponential : Bool) → Type 0 where
   plain : Kind false true
 
 -- What the states accept: the tails of fields.
-
--- behind n of the 5E bytes stand the others
-abbrev UpTail : ℕ → List ℕ → Type 0
-UpTail n bs = isField (runState (Up n) bs) ≡ true → bs ≡ times (ups - n) upByte
-
--- one 5E byte, which counts on below four
-up-step : (n : ℕ) (bs : List ℕ) → ((m : ℕ) → UpTail m bs) → (t : Bool) → ltb n ups ≡ t
-    → isField (runState (pick t (Up (n + 1)) Stopped) bs) ≡ true → upByte ∷ bs ≡ times (ups - n) upByte
-unfolding times
-up-step n bs ih true e h =
-    let l : n < ups = ltb-true n ups e in
-    let m : suc (ups - (n + 1)) ≡ ups - n = omega arith in
-    ap (λ (l : List ℕ). upByte ∷ l) (ih (n + 1) h) ∙ ap (λ (k : ℕ). times k upByte) m
-up-step n bs ih false e h = halted bs h
-
--- one byte behind 5E bytes
-up-byte : (n : ℕ) {b : ℕ} (bs : List ℕ) → ((m : ℕ) → UpTail m bs) → ByteView b → UpTail n (b ∷ bs)
-unfolding runState nextState
-up-byte n bs ih isPlus h = halted bs h
-up-byte n bs ih isMinus h = halted bs h
-up-byte n bs ih isHash h = halted bs h
-up-byte n bs ih isPoint h = halted bs h
-up-byte n bs ih isComma h = halted bs h
-up-byte n bs ih isUp h = up-step n bs ih (ltb n ups) refl h
-up-byte n bs ih (isOther e) h = halted-by bs (e (Up n)) h
-
--- all bytes behind 5E bytes
-up-tail : (n : ℕ) (bs : List ℕ) → UpTail n bs
-unfolding runState times
-up-tail n [] h = ap (λ (k : ℕ). times (ups - k) upByte) (sym (eqb-true n ups h))
-up-tail n (b ∷ bs) h = up-byte n bs (λ m. up-tail m bs) (view b) h
 
 -- # signs behind the point, at least so many, and the 5E bytes or none
 record Behind (grouped : Bool) (least : ℕ) (bs : List ℕ) : Type 0 where

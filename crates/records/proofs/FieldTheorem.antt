@@ -9,8 +9,7 @@ use mathlib.Core.Bool.{Bool, true, false}
 use lib.ListN.{length, take}
 use lib.Seq.{take-length}
 use Rattle.decimal.specs.declared.image.Image.{Image}
-use Rattle.decimal.specs.declared.image.State.{State}
-use Rattle.decimal.specs.declared.image.State.the-variants.{Start}
+use Rattle.decimal.specs.Image.{State, Start}
 use Rattle.decimal.specs.Answer.{pick}
 use Rattle.decimal.specs.Image.{times, hashByte, signBytes, fractionBytes, upBytes, imageBytes, IsImage, nextState, runState, scannedImage}
 use Rattle.records.specs.Scanning.{Field, runBytes, fieldBytes, Positive, total, IsField, LongestField, isField, longestFrom, fieldLength}

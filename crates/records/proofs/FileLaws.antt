@@ -2,11 +2,10 @@
 use Prim.Native.Nat.{ℕ, suc, _+_, _-_, _*_, _/_, _%_, _<_, _≤_}
 use mathlib.Core.Path.{_≡_, refl, ap, sym, subst, _∙_}
 use mathlib.Core.Bool.{Bool, true, false}
-use mathlib.Core.List.{List, [], _++_, append-assoc, append-nil}
+use mathlib.Core.List.{List, [], _++_}
 use native.Mathlib.Omega.{arith}
 use native.Mathlib.Nat.{suc-mul, le-div-iff-mul-le}
-use lib.ListN.{length, take, drop, take-append-drop, length-drop, drop-of-length-le}
-use lib.Seq.{take-all, drop-drop}
+use lib.ListN.{length, take, drop, take-append-drop, length-drop}
 use lib.Dec.{ltb, eqb}
 use borrow.Author.Tests.{lt-ltb, le-ltb, ltb-true, ltb-false, eq-eqb, ne-eqb, eqb-true}
 use Rattle.decimal.specs.declared.refusal.Refusal.{Refusal}
@@ -14,10 +13,12 @@ use Rattle.decimal.specs.declared.image.Image.{Image}
 use Rattle.decimal.specs.declared.number.Number.{Number}
 use Rattle.decimal.specs.Answer.{Answer, done, refused, _then_, pick}
 use Rattle.codec.specs.declared.contents.Contents.{Contents}
-use Rattle.codec.specs.declared.contents.ContentsAnswer.the-variants as gives
-use Rattle.codec.specs.Lists.{storedIn}
-use Rattle.codec.specs.Contents.{Table, bodySize, readContents, readAlone, contentsOf, imageList}
-use Rattle.codec.specs.Body.{packList, packUnder, packingUnder, within, written, sized}
+use Rattle.decimal.specs.declared.refusal.CheckAnswer.the-variants as checks
+use Rattle.codec.specs.Answers.{storedIn, within, written, sized}
+use Rattle.codec.specs.Lists.{imageList}
+use Rattle.codec.specs.Columns.{bodySize}
+use Rattle.codec.specs.Contents.{Table, readContents, readAlone, contentsOf}
+use Rattle.codec.specs.Packing.{packList, packUnder, packingUnder}
 use Rattle.decimal.proofs.AnswerLaws.{never-done, then-done}
 use Rattle.codec.proofs.ContentsLaws.{contents-sound, TableTold, told-read, told-refused}
 use Rattle.codec.proofs.FrontLaws.{contents-within, contents-body, contents-checks}
@@ -36,6 +37,7 @@ use Rattle.records.specs.Files.{
   partOf,
   shownPart,
 }
+use Rattle.records.proofs.WritingLaws.{partBehind, putBehind, behind-all, part-written}
 
 -- A file without records.
 
@@ -131,18 +133,18 @@ module _ (file : List ℕ) where
 
   module _ (r : Contents) (h : r ≡ contentsOf (readContents file)) where
     -- so the code's answer is the file's where the contents is refused
-    pub file-stops : (refusal : Refusal) → r .answer ≡ gives.Refused refusal → r ≡ contentsOf (readFile file)
+    pub file-stops : (refusal : Refusal) → r .answer ≡ checks.Refused refusal → r ≡ contentsOf (readFile file)
     file-stops refusal e = let q = told-refused (readContents file) r refusal h e in h ∙ ap contentsOf (q ∙ sym (file-first q))
 
     -- its own length is within the file
-    pub size-within : r .answer ≡ gives.Read → r .size ≤ length file
+    pub size-within : r .answer ≡ checks.Fine → r .size ≤ length file
     size-within e = let t = told-read (readContents file) r h e in omega (arith, t .size, contents-within file (t .reads))
 
     -- a body is not empty
-    pub body-some : r .answer ≡ gives.Read → 0 < r .body
+    pub body-some : r .answer ≡ checks.Fine → 0 < r .body
     body-some e = let t = told-read (readContents file) r h e in omega (arith, t .body, contents-body file (t .reads))
 
-    module _ (e : r .answer ≡ gives.Read) where
+    module _ (e : r .answer ≡ checks.Fine) where
       -- what the code has read
       told : TableTold (readContents file) r
       told = told-read (readContents file) r h e
@@ -232,7 +234,7 @@ shown-inside file r {p} h =
         subst (λ (x : Part). x .start + x .size ≤ length file) same inside
     go t false e read q = never-done q
 
-module _ (file : List ℕ) (r : Contents) (h : r ≡ contentsOf (readFile file)) (e : r .answer ≡ gives.Read) where
+module _ (file : List ℕ) (r : Contents) (h : r ≡ contentsOf (readFile file)) (e : r .answer ≡ checks.Fine) where
   -- what the code has read of a file
   file-table : Table
   file-table = told-read (readFile file) r h e .table
@@ -358,33 +360,12 @@ added-told buffer used ns {body} h =
 
 -- The code's answer and the buffer.
 
--- what follows a used length, as the code lends it
-abbrev pub behindUsed : List ℕ → ℕ → List ℕ
-behindUsed buffer used = take (length buffer - used) (drop used buffer)
-
--- the whole buffer, with other bytes in that place
-abbrev pub putBehind : List ℕ → ℕ → List ℕ → List ℕ
-putBehind buffer used bytes = take used buffer ++ (bytes ++ drop (length buffer - used) (drop used buffer))
-
--- it goes to the buffer's end
-behind-all : (buffer : List ℕ) (used : ℕ) → behindUsed buffer used ≡ drop used buffer
-behind-all buffer used = take-all (length buffer - used) (drop used buffer) (omega (arith, length-drop used buffer))
-
--- so no byte stands behind it
-behind-none : (buffer : List ℕ) (used : ℕ) → drop (length buffer - used) (drop used buffer) ≡ []
-behind-none buffer used = drop-of-length-le (drop used buffer) {i = length buffer - used} (omega (arith, length-drop used buffer))
-
 -- what is stored there is written behind the used length
 behind-stored :
     (buffer : List ℕ) (used : ℕ) (a : Answer (List ℕ))
-    → putBehind buffer used (storedIn a (behindUsed buffer used)) ≡ writtenBehind used a buffer
-unfolding storedIn writtenBehind written
-behind-stored buffer used (done body) =
-    ap (λ (l : List ℕ). take used buffer ++ (body ++ drop (length body) (behindUsed buffer used) ++ l)) (behind-none buffer used)
-    ∙ ap (λ (l : List ℕ). take used buffer ++ l) (append-nil (body ++ drop (length body) (behindUsed buffer used)))
-    ∙ ap (λ (l : List ℕ). take used buffer ++ (body ++ drop (length body) l)) (behind-all buffer used)
-    ∙ ap (λ (l : List ℕ). take used buffer ++ (body ++ l)) (drop-drop (length body) used buffer)
-    ∙ sym (append-assoc (take used buffer) body (drop (used + length body) buffer))
+    → putBehind buffer used (storedIn a (partBehind buffer used)) ≡ writtenBehind used a buffer
+unfolding storedIn writtenBehind
+behind-stored buffer used (done body) = part-written buffer used body refl
 behind-stored buffer used (refused number place) =
     ap (λ (l : List ℕ). take used buffer ++ l) (take-append-drop (length buffer - used) (drop used buffer)) ∙ take-append-drop used buffer
 
@@ -412,7 +393,7 @@ adds-refused buffer used ns h =
 
 module _
     (buffer : List ℕ) (used : ℕ) (ns : List Number) (r : Contents)
-    (h : r ≡ contentsOf (readUsed buffer used)) (e : r .answer ≡ gives.Read)
+    (h : r ≡ contentsOf (readUsed buffer used)) (e : r .answer ≡ checks.Fine)
   where
     -- the used length is within the buffer
     pub adds-within : used ≤ length buffer
@@ -420,7 +401,7 @@ module _
 
     -- the list, packed under the images that the code has read, into what follows the used length
     abbrev packed-behind : Answer (List ℕ)
-    packed-behind = packingUnder (imageList (r .images) (r .count)) ns (length (behindUsed buffer used))
+    packed-behind = packingUnder (imageList (r .images)) ns (length (partBehind buffer used))
 
     -- this is what is added
     adds-under : packed-behind ≡ added buffer used ns
@@ -428,17 +409,17 @@ module _
     adds-under =
         let t = told-read (readUsed buffer used) r h e in
         let contents = file-told (take used buffer) (used-told buffer used (t .reads) .1) .contents in
-        let images : imageList (r .images) (r .count) ≡ t .table .images =
+        let images : imageList (r .images) ≡ t .table .images =
         told-images (t .table) (contents-sound (take used buffer) contents .high) (h ∙ ap contentsOf (t .reads)) in
-        let packs : packUnder (imageList (r .images) (r .count)) ns ≡ packList (t .table .images) ns =
+        let packs : packUnder (imageList (r .images)) ns ≡ packList (t .table .images) ns =
         ap (λ (ims : List Image). packUnder ims ns) images
         ∙ pack-under-checked (t .table .images) ns (contents-checks (take used buffer) contents) in
-        let room : length (behindUsed buffer used) ≡ length buffer - used = ap length (behind-all buffer used) ∙ length-drop used buffer in
+        let room : length (partBehind buffer used) ≡ length buffer - used = ap length (behind-all buffer used) ∙ length-drop used buffer in
         (λ i. packs i then within (room i)) ∙ sym (added-packed buffer used ns (t .reads))
 
     module _
         {answer : Answer ℕ} {after : List ℕ}
-        (told : (answer ≡ sized packed-behind) × (after ≡ storedIn packed-behind (behindUsed buffer used)))
+        (told : (answer ≡ sized packed-behind) × (after ≡ storedIn packed-behind (partBehind buffer used)))
       where
         -- the length of what is added, or the refusal
         adds-sized : answer ≡ sized (added buffer used ns)
@@ -447,7 +428,7 @@ module _
         -- the buffer with it
         adds-put : putBehind buffer used after ≡ writtenBehind used (added buffer used ns) buffer
         adds-put =
-            ap (putBehind buffer used) (told .1 ∙ ap (λ (a : Answer (List ℕ)). storedIn a (behindUsed buffer used)) adds-under)
+            ap (putBehind buffer used) (told .1 ∙ ap (λ (a : Answer (List ℕ)). storedIn a (partBehind buffer used)) adds-under)
             ∙ behind-stored buffer used (added buffer used ns)
 
         -- it is within the buffer

@@ -5,14 +5,16 @@ use mathlib.Core.Bool.{Bool, true, false}
 use mathlib.Core.List.{List, [], _∷_, _++_}
 use native.Mathlib.Omega.{arith}
 use native.Mathlib.Nat.{suc-mul, one-mul, add-mul-div-right, add-mul-mod-self-right, div-add-mod', zero-mod, zero-div}
-use lib.ListN.{length, take, drop, length-append, length-drop}
-use lib.Seq.{length-take-le, take-length, take-append-le, drop-append-le, take-at, drop-at}
+use lib.ListN.{length, take, drop, getD, length-append, length-drop}
+use lib.Seq.{length-take-le, take-length, take-append-le, drop-append-le, take-at, drop-at, drop-drop}
 use lib.Dec.{eqb}
 use borrow.Author.Tests.{eqb-true}
 use Rattle.decimal.specs.declared.number.Number.{Number}
 use Rattle.decimal.specs.Answer.{done, refused, pick}
-use Rattle.codec.specs.Contents.{Table, bodySize, readContents, readAlone}
-use Rattle.codec.specs.Body.{packList, within, written}
+use Rattle.codec.specs.Columns.{bodySize}
+use Rattle.codec.specs.Contents.{Table, readContents, readAlone}
+use Rattle.codec.specs.Answers.{within, written}
+use Rattle.codec.specs.Packing.{packList}
 use Rattle.decimal.proofs.AnswerLaws.{never-done, then-done}
 use Rattle.codec.proofs.ContentsLaws.{contents-sound}
 use Rattle.codec.proofs.FrontLaws.{contents-same}
@@ -36,6 +38,32 @@ bodies-more (suc n) size bytes body h e =
     let rest : length (drop size bytes) ≡ n * size = omega (arith, suc-mul n size, length-drop size bytes) in
     ap₂ (λ (x y : List ℕ). x ∷ bodies (suc n) size y) (take-append-le size bytes body enough) (drop-append-le size bytes body enough)
     ∙ ap (λ (l : List (List ℕ)). take size bytes ∷ l) (bodies-more n size (drop size bytes) body rest e)
+
+-- the body at a place among so many
+bodies-at : (n size r : ℕ) (bytes : List ℕ) → r < n → getD (bodies n size bytes) r [] ≡ take size (drop (r * size) bytes)
+unfolding bodies
+bodies-at zero size r bytes h = absurd (omega arith)
+bodies-at (suc n) size zero bytes h =
+    let none : 0 ≡ 0 * size = omega arith in
+    ap (λ (k : ℕ). take size (drop k bytes)) none
+bodies-at (suc n) size (suc r) bytes h =
+    let next : size + r * size ≡ suc r * size = omega (arith, suc-mul r size) in
+    bodies-at n size r (drop size bytes) (omega arith)
+    ∙ ap (take size) (drop-drop (r * size) size bytes)
+    ∙ ap (λ (k : ℕ). take size (drop k bytes)) next
+
+-- The part of a file that is shown is the body in that place of the order.
+pub record-at :
+    (file : List ℕ) (r : ℕ) {table : Table}
+    → readFile file ≡ done table
+    → r < recordCount table file
+    → shownPart file r ≡ getD (bodiesIn table file) r []
+unfolding partOf bodiesIn
+record-at file r {table} reads h =
+    let size : ℕ = bodySize (table .images) in
+    ap (partOf file) (shown-there file r reads h)
+    ∙ ap (take size) (sym (drop-drop (r * size) (table .size) file))
+    ∙ sym (bodies-at (recordCount table file) size r (drop (table .size) file) h)
 
 module _ (file body : List ℕ) (table : Table) (reads : readFile file ≡ done table) (long : length body ≡ bodySize (table .images)) where
   -- what the file tells

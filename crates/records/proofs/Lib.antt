@@ -4,11 +4,14 @@ pub mod ScanLaws
 pub mod FieldTails
 pub mod FieldRuns
 pub mod FieldTheorem
+pub mod MarkLaws
 pub mod FieldLaws
 pub mod ReadFieldLaws
+pub mod StrayLaws
 pub mod FillLaws
 pub mod FieldBackTheorem
 pub mod CheckLaws
+pub mod FindLaws
 pub mod ForecastTheorem
 pub mod SpilledTheorem
 pub mod PrintLaws

@@ -10,14 +10,15 @@ use lib.Seq.{drop-drop}
 use Rattle.decimal.specs.declared.image.Image.{Image}
 use Rattle.decimal.specs.declared.number.Number.{Number}
 use Rattle.decimal.specs.declared.refusal.Refusal.{Refusal}
-use Rattle.decimal.specs.Answer.{Answer, done, refused, _then_}
+use Rattle.decimal.specs.Answer.{Answer, done, refused, _then_, given}
 use Rattle.decimal.specs.Number.{zeroNumber}
 use Rattle.codec.specs.declared.contents.Contents.{Contents}
-use Rattle.codec.specs.declared.contents.ContentsAnswer.the-variants as reads
-use Rattle.codec.specs.declared.unpacking.UnpackAnswer.the-variants as unpacks
+use Rattle.decimal.specs.declared.refusal.CheckAnswer.the-variants as checks
 use Rattle.codec.specs.declared.unpacking.Unpacked.{Unpacked}
-use Rattle.codec.specs.Contents.{Table, maxColumns, bodySize, AllChecked, contentsOf, noImage, imageList}
-use Rattle.codec.specs.Body.{written}
+use Rattle.codec.specs.Lists.{maxColumns, noImage, imageList}
+use Rattle.codec.specs.Columns.{bodySize, AllChecked}
+use Rattle.codec.specs.Contents.{Table, contentsOf}
+use Rattle.codec.specs.Answers.{written}
 use Rattle.codec.specs.Unpacking.{unpackBody, unpackUnder, unpackedOf}
 use Rattle.codec.specs.Alpha.{alphaTexts, lineLength}
 use Rattle.decimal.proofs.AnswerLaws.{then-done}
@@ -27,7 +28,7 @@ use Rattle.codec.proofs.UnderLaws.{checked-checks, told-images, unpack-under-ch
 use Rattle.codec.proofs.LineLaws.{texts-count, texts-length, unpacked-count, unpacked-texts}
 use Rattle.codec.proofs.FrontLaws.{contents-size}
 use Rattle.records.specs.Files.{readFile, recordCount, bodies, bodiesIn}
-use Rattle.records.specs.Listing.{recordLine, recordLines, fileLines, checkedFile, given, linesOf, Listed, HasTexts}
+use Rattle.records.specs.Listing.{recordLine, recordLines, fileLines, checkedFile, linesOf, Listed, HasTexts}
 use Rattle.records.proofs.WritingLaws.{written-empty, kept-length, next-bytes}
 use Rattle.records.proofs.FileLaws.{FileRead, file-told}
 use Rattle.records.proofs.RecordLaws.{line-length}
@@ -37,9 +38,9 @@ use Rattle.records.proofs.RecordLaws.{line-length}
 -- the contents that was read
 pub record TableHeld (table : Table) (r : Contents) : Type 0 where
   pub sound : Sound (table .images)
-  pub images : imageList (r .images) (r .count) ≡ table .images
-  pub front : take (r .count) (r .images) ≡ table .images
-  pub count : r .count ≡ length (table .images)
+  pub images : imageList (r .images) ≡ table .images
+  pub front : take (r .images .count) (r .images .values) ≡ table .images
+  pub count : r .images .count ≡ length (table .images)
   pub size : r .size ≡ table .size
   pub body : r .body ≡ bodySize (table .images)
 
@@ -50,8 +51,8 @@ table-held table s h =
     record {
       sound = s;
       images = told-images table (s .high) h;
-      front = ap (λ (x : Contents). take (x .count) (x .images)) h ∙ filled-front noImage maxColumns ims (s .high);
-      count = ap (λ (x : Contents). x .count) h;
+      front = ap (λ (x : Contents). take (x .images .count) (x .images .values)) h ∙ filled-front noImage maxColumns ims (s .high);
+      count = ap (λ (x : Contents). x .images .count) h;
       size = ap (λ (x : Contents). x .size) h;
       body = ap (λ (x : Contents). x .body) h;
     }
@@ -61,24 +62,23 @@ body-unpacked :
     {table : Table} {r : Contents}
     → TableHeld table r
     → (body : List ℕ)
-    → unpackUnder (imageList (r .images) (r .count)) body ≡ unpackBody (table .images) body
+    → unpackUnder (imageList (r .images)) body ≡ unpackBody (table .images) body
 body-unpacked {table} t body =
     let s = t .sound in
     let checks = checked-checks (s .all) (s .low) (s .high) in
     ap (λ (l : List Image). unpackUnder l body) (t .images) ∙ unpack-under-checked (table .images) body checks
 
--- and so is the body at a place of a file, as the code lends it
+-- and so is the body at a place of a file, as the code reads it
 pub part-unpacked :
     {table : Table} {r : Contents}
     → TableHeld table r
     → (file : List ℕ) (place : ℕ) {u : Unpacked}
-    → u ≡ unpackedOf (unpackUnder (imageList (r .images) (r .count)) (take (place + r .body - place) (drop place file)))
+    → u ≡ unpackedOf (unpackUnder (imageList (r .images)) (take (r .body) (drop place file)))
     → u ≡ unpackedOf (unpackBody (table .images) (take (bodySize (table .images)) (drop place file)))
 part-unpacked {table} {r} t file place h =
-    let size : place + r .body - place ≡ bodySize (table .images) = omega (arith, t .body) in
     h
-    ∙ ap unpackedOf (body-unpacked t (take (place + r .body - place) (drop place file)))
-    ∙ ap (λ (k : ℕ). unpackedOf (unpackBody (table .images) (take k (drop place file)))) size
+    ∙ ap unpackedOf (body-unpacked t (take (r .body) (drop place file)))
+    ∙ ap (λ (k : ℕ). unpackedOf (unpackBody (table .images) (take k (drop place file)))) (t .body)
 
 -- What the code's answer tells of a body.
 
@@ -86,26 +86,26 @@ part-unpacked {table} {r} t file place h =
 pub unpack-refused :
     (a : Answer (List Number)) {u : Unpacked} {refusal : Refusal}
     → u ≡ unpackedOf a
-    → u .answer ≡ unpacks.Refused refusal
+    → u .answer ≡ checks.Refused refusal
     → a ≡ refused (refusal .number) (refusal .place)
 unfolding unpackedOf
 unpack-refused (done ns) {u} {refusal} h e =
-    let wrong : unpacks.Refused refusal ≡ unpacks.Unpacks = sym e ∙ ap (λ (k : Unpacked). k .answer) h in
+    let wrong : checks.Refused refusal ≡ checks.Fine = sym e ∙ ap (λ (k : Unpacked). k .answer) h in
     let z : _≡_ {A = ℕ} 0 1 = cc in
     absurd (omega arith)
 unpack-refused (refused x y) {u} {refusal} h e =
-    let same : unpacks.Refused refusal ≡ unpacks.Refused (record { number = x; place = y }) =
+    let same : checks.Refused refusal ≡ checks.Refused (record { number = x; place = y }) =
     sym e ∙ ap (λ (k : Unpacked). k .answer) h in
     let told : refusal ≡ record { number = x; place = y } = cc in
     ap (λ (k : Refusal). refused (k .number) (k .place)) (sym told)
 
 -- or it is read
 pub unpack-read :
-    (a : Answer (List Number)) {u : Unpacked} → u ≡ unpackedOf a → u .answer ≡ unpacks.Unpacks → (ns : List Number) × (a ≡ done ns)
+    (a : Answer (List Number)) {u : Unpacked} → u ≡ unpackedOf a → u .answer ≡ checks.Fine → (ns : List Number) × (a ≡ done ns)
 unfolding unpackedOf
 unpack-read (done ns) h e = (ns, refl)
 unpack-read (refused x y) h e =
-    let wrong : unpacks.Unpacks ≡ unpacks.Refused (record { number = x; place = y }) = sym e ∙ ap (λ (k : Unpacked). k .answer) h in
+    let wrong : checks.Fine ≡ checks.Refused (record { number = x; place = y }) = sym e ∙ ap (λ (k : Unpacked). k .answer) h in
     let z : _≡_ {A = ℕ} 0 1 = cc in
     absurd (omega arith)
 
@@ -270,7 +270,7 @@ pub record FileHeld (file : List ℕ) (r : Contents) : Type 0 where
   pub some : 0 < bodySize (table .images)
   pub held : TableHeld table r
 
-pub file-held : (file : List ℕ) {r : Contents} → r ≡ contentsOf (readFile file) → r .answer ≡ reads.Read → FileHeld file r
+pub file-held : (file : List ℕ) {r : Contents} → r ≡ contentsOf (readFile file) → r .answer ≡ checks.Fine → FileHeld file r
 file-held file {r} h e =
     let t = told-read (readFile file) r h e in
     let f = file-told file (t .reads) in
@@ -289,7 +289,7 @@ checked-refused file h = rw h
 pub file-refused :
     (file : List ℕ) {r : Contents} {refusal : Refusal}
     → r ≡ contentsOf (readFile file)
-    → r .answer ≡ reads.Refused refusal
+    → r .answer ≡ checks.Refused refusal
     → r ≡ contentsOf (checkedFile file)
 file-refused file {r} {refusal} h e =
     let q = told-refused (readFile file) r refusal h e in
@@ -306,7 +306,7 @@ listed-held {file} h =
     let l = file-listed file (h .checked) in
     record { table = h .table; lists = l; held = table-held (h .table) (l .sound) (h .told) }
 
-pub listed-made : (file : List ℕ) {r : Contents} → r ≡ contentsOf (checkedFile file) → r .answer ≡ reads.Read → Listed file r
+pub listed-made : (file : List ℕ) {r : Contents} → r ≡ contentsOf (checkedFile file) → r .answer ≡ checks.Fine → Listed file r
 listed-made file {r} h e =
     let t = told-read (checkedFile file) r h e in
     record { table = t .table; told = h ∙ ap contentsOf (t .reads); checked = t .reads }
@@ -556,7 +556,7 @@ module _
     (h : ListedHeld file r)
     (w : Lining file (h .table) buffer start now out place)
     (l : place < length file)
-    (e : u ≡ unpackedOf (unpackUnder (imageList (r .images) (r .count)) (take (place + r .body - place) (drop place file)))) where
+    (e : u ≡ unpackedOf (unpackUnder (imageList (r .images)) (take (r .body) (drop place file)))) where
   -- the body's numbers and texts
   abbrev step : LinesStep (h .table .images) (bodyAt file (bodySize (h .table .images)) place)
       (bodiesBehind file (bodySize (h .table .images)) place (lining-ahead w l .others)) (w .after)
@@ -567,7 +567,7 @@ module _
   numbers-count = unpacked-count (h .table .images) (bodyAt file (bodySize (h .table .images)) place) (step .unpacks)
 
   -- the numbers stand at the front of the array
-  values-front : take (r .count) (u .numbers .values) ≡ step .numbers
+  values-front : take (r .images .count) (u .numbers .values) ≡ step .numbers
   values-front =
       let t = h .held in
       let body : List ℕ = bodyAt file (bodySize (h .table .images)) place in
@@ -576,10 +576,10 @@ module _
       (omega (arith, numbers-count, t .sound .high))
 
   -- so the texts are those of the arrays
-  front-texts : alphaTexts (take (r .count) (r .images)) (take (r .count) (u .numbers .values)) ≡ done (step .texts)
+  front-texts : alphaTexts (take (r .images .count) (r .images .values)) (take (r .images .count) (u .numbers .values)) ≡ done (step .texts)
   front-texts = ap₂ (λ (x : List Image) (y : List Number). alphaTexts x y) (h .held .front) values-front ∙ step .shows
 
-  pub front-has : HasTexts (take (r .count) (r .images)) (take (r .count) (u .numbers .values))
+  pub front-has : HasTexts (take (r .images .count) (r .images .values)) (take (r .images .count) (u .numbers .values))
   front-has =
       let t = h .held in
       record {
@@ -590,6 +590,6 @@ module _
       }
 
   -- and so is the line
-  pub front-line : recordLine (given (alphaTexts (take (r .count) (r .images)) (take (r .count) (u .numbers .values)))) ≡ next-line w l
+  pub front-line : recordLine (given (alphaTexts (take (r .images .count) (r .images .values)) (take (r .images .count) (u .numbers .values)))) ≡ next-line w l
   unfolding given next-line
   front-line = ap (λ (a : Answer (List (List ℕ))). recordLine (given a)) front-texts

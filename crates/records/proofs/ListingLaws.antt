@@ -10,7 +10,7 @@ use borrow.Author.Tests.{ltb-true, ltb-false}
 use Rattle.decimal.specs.Answer.{Answer, done, refused, _then_}
 use Rattle.codec.specs.declared.contents.Contents.{Contents}
 use Rattle.codec.specs.Contents.{Table}
-use Rattle.codec.specs.Body.{within, written}
+use Rattle.codec.specs.Answers.{within, written}
 use Rattle.decimal.proofs.AnswerLaws.{never-done}
 use Rattle.records.specs.Writing.{decimalText}
 use Rattle.records.specs.Files.{readFile, recordCount}
@@ -127,7 +127,7 @@ recordsOf file r = (length file - r .size) / r .body
 
 -- the first and the last line
 abbrev pub firstLine : Contents → List ℕ
-firstLine r = countLine columnsWord (r .count)
+firstLine r = countLine columnsWord (r .images .count)
 
 abbrev pub lastLine : List ℕ → Contents → List ℕ
 lastLine file r = countLine recordsWord (recordsOf file r)
@@ -159,7 +159,7 @@ module _ {file : List ℕ} {r : Contents} (h : ListedHeld file r) where
   -- what the code measures
   module _
       (room : ℕ) {one two : ℕ} {longer : Bool}
-      (columns : one ≡ length (decimalText (r .count)))
+      (columns : one ≡ length (decimalText (r .images .count)))
       (records : two ≡ length (decimalText (recordsOf file r)))
       (test : longer ≡ ltb room (18 + one + two + recordsOf file r * (r .size - 1))) where
     -- is the listing's length

@@ -8,8 +8,9 @@ use native.Mathlib.Nat.{mul-le-mul-left}
 use lib.ListN.{length}
 use Rattle.decimal.specs.Answer.{Answer, done, _then_}
 use Rattle.decimal.proofs.DigitLaws.{le-or-lt}
-use Rattle.codec.specs.Contents.{Table, bodySize}
-use Rattle.codec.specs.Body.{within}
+use Rattle.codec.specs.Columns.{bodySize}
+use Rattle.codec.specs.Contents.{Table}
+use Rattle.codec.specs.Answers.{within}
 use Rattle.codec.specs.Alpha.{lineLength}
 use Rattle.decimal.proofs.AnswerLaws.{then-done}
 use Rattle.records.specs.Files.{readFile, recordCount}

@@ -14,23 +14,27 @@ use lib.Seq.{take-all, drop-drop, drop-cons, drop-length, length-take-le, take-a
 use Rattle.decimal.specs.Answer.{Answer, done, refused, pick, _then_}
 use Rattle.decimal.specs.declared.number.Number.{Number}
 use Rattle.decimal.specs.Number.{zeroNumber}
-use Rattle.codec.specs.Lists.{storedIn}
-use Rattle.codec.specs.Body.{written}
+use Rattle.codec.specs.Answers.{storedIn, written}
 use Rattle.codec.proofs.ListLaws.{filled-length, filled-at}
 use Rattle.codec.proofs.BufferLaws.{written-none, written-stored, written-next, written-length}
 use Rattle.decimal.proofs.DigitLaws.{le-or-lt}
 use Rattle.decimal.proofs.BoolLaws.{zero-or-not, and-true}
 use Rattle.records.specs.declared.fields.Element.{Element}
 use Rattle.records.specs.declared.fields.Element.the-variants as element
-use Rattle.records.specs.declared.printing.Size.{Size}
 use Rattle.records.specs.Scanning.{fieldLength}
 use Rattle.records.specs.Fields.{numberIn, spilledBy, elementBytes, elementSpills, FieldReady}
 use Rattle.codec.specs.Walking.{lineEnd}
-use Rattle.records.specs.Printing.{maxElements, maxLine, literals, fromField, firstField, behindField, hasField, Print, andThen, oneField, printFrom, checkFields, checkElements, checkSome, checkCounts, printed, roomFor, printing, elementList, countsOf, bytesOf, lineChecks, LineReady, SizeOf}
+use Rattle.records.specs.Printing.{maxElements, maxLine, literals, fromField, firstField, behindField, hasField, Print, andThen, oneField, printFrom, checkFields, checkElement, checkElements, checkSome, checkCounts, printed, roomFor, printing, elementList, Counts, countsOf, bytesOf, lineChecks, measured, LineReady}
 use Rattle.records.proofs.FieldTheorem.{longest-field}
 use Rattle.records.specs.Printing.{Reached, afterField}
 use Rattle.records.proofs.FieldLaws.{element-length}
-use Rattle.records.proofs.CheckLaws.{reached-ready, reached-next}
+use Rattle.records.proofs.CheckLaws.{counts-done, line-elements, reached-ready, reached-next, elements-refused, elements-next, elements-end}
+use Rattle.records.specs.declared.finding.Field.{Field}
+use Rattle.records.specs.declared.finding.Fields.{Fields}
+use Rattle.records.specs.Finding.{noField, Listed}
+use Rattle.records.proofs.FindLaws.{AtField, NextField, at-first, no-next, counted-none, listed-next}
+use Rattle.decimal.specs.Image.{scannedImage}
+use Rattle.decimal.proofs.AnswerLaws.{never-done}
 
 -- The literal bytes before the first field.
 
@@ -540,7 +544,7 @@ module _ {line : List ℕ} {es : List Element} {used from spilled : ℕ} where
       ap (λ (x : List Element). printFrom texts line (drop from line) x .spilled) z in
       omega (arith, p .counted texts, last)
 
--- Each pass over the line uses an element.
+-- Behind the literal bytes.
 
 -- behind the literal bytes stands no literal byte
 pub literals-at : (line : List ℕ) (from : ℕ) {start : ℕ} → start ≡ from + length (literals (drop from line)) → literals (drop start line) ≡ []
@@ -563,39 +567,16 @@ field-at line from {start} h i l z =
     from-field (drop from line) less
     (ap fieldLength (drop-drop (length (literals (drop from line))) from line ∙ ap (λ (k : ℕ). drop k line) (sym h)) ∙ z)
 
--- since the pass began an element was used, or none was left, or a field is still ahead
-pub record Ahead (line : List ℕ) (count first used from : ℕ) : Type 0 where
-  pub grown : first ≤ used
-  pub ahead : first ≡ used → used < count → from + length (literals (drop from line)) < length line
-
--- a pass begins
-pub ahead-starts : (line : List ℕ) (es : List Element) (used : ℕ) → LineReady line es → Ahead line (length es) used used 0
-ahead-starts line es used r =
-    record { grown = omega arith; ahead = λ e h. omega (arith, ready-field line es r (omega arith)) }
-
-module _ {line : List ℕ} {count first used from : ℕ} where
-  -- behind the literal bytes
-  pub ahead-literals : {start : ℕ} → Ahead line count first used from → start ≡ from + length (literals (drop from line))
-      → Ahead line count first used start
-  ahead-literals {start} p h =
-      let none : length (literals (drop start line)) ≡ 0 = ap length (literals-at line from h) in
-      record { grown = p .grown; ahead = λ e l. omega (arith, p .ahead e l, none) }
-
-  -- an element is used
-  pub ahead-field : (next : ℕ) → Ahead line count first used from → Ahead line count first (used + 1) next
-  ahead-field next p = record { grown = omega (arith, p .grown); ahead = λ e l. absurd (omega (arith, p .grown)) }
-
-  -- at the line's end with an element left, one was used
-  pub ahead-ends : Ahead line count first used from → used < count → from ≡ length line → first < used
-  ahead-ends p l e =
-      ⊎-elim (λ h. absurd (omega (arith, p .ahead (omega (arith, p .grown)) l))) (λ h. h) (le-or-lt used first)
-
 -- The elements that the code's array and count stand for.
 
 -- there are as many as counted
 pub elements-count : (elements : List Element) (count : ℕ) → length (elementList elements count) ≡ count
 unfolding elementList
 elements-count elements count = filled-length (element.Number zeroNumber) count elements
+
+-- what stands for an element behind an array's end
+abbrev pub zeroElement : Element
+zeroElement = element.Number (record { negative = false; mantissa = 0; exponent = 0 })
 
 -- a default plays no part inside a list
 default-free : (xs : List Element) (i : ℕ) (d e : Element) → i < length xs → getD xs i d ≡ getD xs i e
@@ -789,36 +770,6 @@ checks-first (done u) (done v) (refused n k) d r = refl
 checks-first (done u) (done v) (done w) (refused n k) r = refl
 checks-first (done u) (done v) (done w) (done x) r = refl
 
--- a check and a next one
-checks-both : (a b : Answer (Unit {0})) → (a then λ _. b) ≡ done tt → (a ≡ done tt) × (b ≡ done tt)
-unfolding _then_
-checks-both (done u) b h = (refl, h)
-checks-both (refused n k) b h = let z : _≡_ {A = ℕ} 0 1 = cc in absurd (omega arith)
-
--- the counts are within their limits
-counts-within : (count size : ℕ) → checkCounts count size ≡ done tt → (count ≤ maxElements) × (size ≤ maxLine)
-unfolding checkCounts
-counts-within count size h = go (leb count maxElements && leb size maxLine) refl
-  where
-    go : (b : Bool) → (leb count maxElements && leb size maxLine) ≡ b → (count ≤ maxElements) × (size ≤ maxLine)
-    go true t =
-        let r = and-true (leb count maxElements) (leb size maxLine) t in
-        (leb-true count maxElements (r .0), leb-true size maxLine (r .1))
-    go false t =
-        let n : pick false (done tt) (refused 10 0) ≡ done tt = ap (λ (x : Bool). pick x (done tt) (refused 10 0)) (sym t) ∙ h in
-        let z : _≡_ {A = ℕ} 0 1 = cc in absurd (omega arith)
-
--- a line that passes the checks can be printed where there is room
-pub checked-ready : (line : List ℕ) (es : List Element) (texts : List ℕ) → lineChecks line es (length texts) ≡ done tt
-    → LineReady line es × (checkFields 0 0 line ≡ done tt) × (checkElements (length texts) 0 es ≡ done tt)
-unfolding lineChecks
-checked-ready line es texts h =
-    let one = checks-both (checkCounts (length es) (length line)) (checkFields 0 0 line then λ _. (checkSome line es then λ _. checkElements (length texts) 0 es)) h in
-    let two = checks-both (checkFields 0 0 line) (checkSome line es then λ _. checkElements (length texts) 0 es) (one .1) in
-    let three = checks-both (checkSome line es) (checkElements (length texts) 0 es) (two .1) in
-    let n = counts-within (length es) (length line) (one .0) in
-    (record { few = n .0; short = n .1; some = three .0 }, two .0, three .1)
-
 module _ (line : List ℕ) (es : List Element) (texts : List ℕ) (room : ℕ) where
   -- the checks, then the room
   printing-steps : printing line es texts room ≡ ((lineChecks line es (length texts) then λ _. done (printFrom texts line line es)) then roomFor room)
@@ -859,10 +810,205 @@ unfolding countsOf bytesOf storedIn
 answer-refused a n k buffer h = (ap countsOf (sym h), ap (λ (x : Answer Print). storedIn (bytesOf x) buffer) (sym h))
 
 -- what a call that prints answers, and the bytes written
-pub answer-printed : (a : Answer Print) (p : Print) (buffer : List ℕ) {size : Size} {next : List ℕ} → a ≡ done p → SizeOf p size → next ≡ written buffer 0 (p .bytes)
-    → (done (record { size = size .bytes; spilled = size .spilled }) ≡ countsOf a) × (next ≡ storedIn (bytesOf a) buffer)
+pub answer-printed : (a : Answer Print) (p : Print) (buffer : List ℕ) {size spilled : ℕ} {next : List ℕ} → a ≡ done p → size ≡ length (p .bytes)
+    → spilled ≡ p .spilled
+    → next ≡ written buffer 0 (p .bytes)
+    → (done (record { size = size; spilled = spilled }) ≡ countsOf a) × (next ≡ storedIn (bytesOf a) buffer)
 unfolding countsOf bytesOf
-answer-printed a p buffer {size} {next} h z e = (
-  (λ i. done (record { size = z .bytes-size i; spilled = z .spills i })) ∙ ap countsOf (sym h),
+answer-printed a p buffer {size} {spilled} {next} h n k e = (
+  (λ i. done (record { size = n i; spilled = k i })) ∙ ap countsOf (sym h),
   e ∙ written-stored buffer (p .bytes) ∙ ap (λ (x : Answer Print). storedIn (bytesOf x) buffer) (sym h),
 )
+
+-- a call that a check refuses
+pub print-refused : (line : List ℕ) (es : List Element) (texts buffer : List ℕ) {m : Answer Counts} {number place : ℕ} → m ≡ refused number place
+    → lineChecks line es (length texts) ≡ refused number place
+    → (m ≡ countsOf (printing line es texts (length buffer))) × (buffer ≡ storedIn (bytesOf (printing line es texts (length buffer))) buffer)
+print-refused line es texts buffer {m} {number} {place} e h =
+    let both =
+    answer-refused (printing line es texts (length buffer)) number place buffer (printing-refused line es texts (length buffer) number place h) in
+    (e ∙ both .0, both .1)
+
+-- the checks of a line that can be measured are its elements'
+pub ready-checks : {line : List ℕ} {es : List Element} (room : ℕ) → LineReady line es → checkFields 0 0 line ≡ done tt
+    → lineChecks line es room ≡ checkElements room 0 es
+ready-checks {line} {es} room r fields =
+    line-elements line es room (counts-done (length es) (length line) (r .few) (r .short)) fields (r .some)
+
+-- What is measured.
+
+module _ (room : ℕ) (texts line : List ℕ) (es : List Element) where
+  -- an element is refused
+  pub measured-not : {number place : ℕ} → checkElements room 0 es ≡ refused number place → refused number place ≡ countsOf (measured room texts line es)
+  unfolding measured _then_ countsOf
+  measured-not {number} {place} h =
+      sym (ap (λ (a : Answer (Unit {0})). countsOf (a then λ _. done (printFrom texts line line es))) h)
+
+  -- none is
+  pub measured-so : {size spilled : ℕ} → checkElements room 0 es ≡ done tt → size ≡ length (printFrom texts line line es .bytes)
+      → spilled ≡ printFrom texts line line es .spilled
+      → done (record { size = size; spilled = spilled }) ≡ countsOf (measured room texts line es)
+  unfolding measured _then_ countsOf
+  measured-so {size} {spilled} h n k =
+      (λ i. done (record { size = n i; spilled = k i }))
+      ∙ sym (ap (λ (a : Answer (Unit {0})). countsOf (a then λ _. done (printFrom texts line line es))) h)
+
+  -- a refusal is an element's
+  pub measured-refused : {number place : ℕ} → refused number place ≡ countsOf (measured room texts line es) → checkElements room 0 es ≡ refused number place
+  unfolding measured _then_ countsOf
+  measured-refused {number} {place} h = go (checkElements room 0 es) h
+    where
+      go : (a : Answer (Unit {0})) → refused number place ≡ countsOf (a then λ _. done (printFrom texts line line es)) → a ≡ refused number place
+      go (done tt) e = never-done e
+      go (refused n k) e = cc
+
+  -- what was measured is what is printed
+  pub measured-printed : {size spilled : ℕ} → done (record { size = size; spilled = spilled }) ≡ countsOf (measured room texts line es)
+      → (checkElements room 0 es ≡ done tt) × (size ≡ length (printFrom texts line line es .bytes)) × (spilled ≡ printFrom texts line line es .spilled)
+  unfolding measured _then_ countsOf
+  measured-printed {size} {spilled} h = go (checkElements room 0 es) h
+    where
+      go : (a : Answer (Unit {0})) → done (record { size = size; spilled = spilled }) ≡ countsOf (a then λ _. done (printFrom texts line line es))
+          → (a ≡ done tt) × (size ≡ length (printFrom texts line line es .bytes)) × (spilled ≡ printFrom texts line line es .spilled)
+      go (done tt) e =
+          let p : Print = printFrom texts line line es in
+          let given : Counts = record { size = length (p .bytes); spilled = p .spilled } in
+          let same : _≡_ {A = Counts} (record { size = size; spilled = spilled }) given = cc in
+          (refl, ap (λ (c : Counts). c .size) same, ap (λ (c : Counts). c .spilled) same)
+      go (refused n k) e = never-done (sym e)
+
+-- there is a field where there is an element
+pub listed-some : {line : List ℕ} {es : List Element} {found : Fields} → LineReady line es → Listed line found → 0 < length es → 0 < found .count
+listed-some {line} {es} {found} ready listed h =
+    ⊎-elim
+    (λ z. absurd (omega (arith, counted-none line (omega (arith, listed .counted)), ready-field line es ready h)))
+    (λ z. z)
+    (le-or-lt (found .count) 0)
+
+-- an element counts at most once
+pub spill-once : {line : List ℕ} {next place n : ℕ} {f : Field} (e : Element) → NextField line next place f
+    → ((field : List ℕ) → f .image ≡ scannedImage field → n ≡ elementSpills field e)
+    → n ≤ 1
+spill-once {line} {f = f} e x spill =
+    let field : List ℕ = take (f .length) (drop (f .start) line) in
+    omega (arith, spill field (x .image-read), spills-once field e)
+
+-- so many elements are checked and measured, up to a place of the line behind so many of its fields
+pub record Measuring (line : List ℕ) (es : List Element) (room : ℕ) (found : Fields) (bytes spilled place next used : ℕ) : Type 0 where
+  pub measures : Place line es used place bytes
+  pub spills : Spills line es used place spilled
+  pub at-field : AtField line next place
+  pub few : next ≤ used
+  pub within : next ≤ found .count
+  pub checks : checkElements room used (drop used es) ≡ checkElements room 0 es
+
+-- before the first element
+pub measuring-starts : (line : List ℕ) (es : List Element) (room : ℕ) (found : Fields) → Measuring line es room found 0 0 0 0 0
+measuring-starts line es room found =
+    record {
+      measures = place-starts line es;
+      spills = spills-start line es;
+      at-field = at-first line;
+      few = omega arith;
+      within = omega arith;
+      checks = refl;
+    }
+
+-- a sum of bytes is a smaller place
+abbrev pub mostBytes : ℕ
+mostBytes = (maxElements + 1) * (maxLine + 1)
+
+module _ {line : List ℕ} {es : List Element} {room : ℕ} {found : Fields} {bytes spilled place next used : ℕ}
+    (ready : LineReady line es) (listed : Listed line found) (m : Measuring line es room found bytes spilled place next used) where
+  -- an element is refused
+  pub measuring-refused : (d : Element) {number k : ℕ} → used < length es → checkElement room used (getD es used d) ≡ refused number k
+      → (texts : List ℕ)
+      → refused number k ≡ countsOf (measured room texts line es)
+  measuring-refused d h e texts = measured-not room texts line es (sym (m .checks) ∙ elements-refused room used es d h e)
+
+  -- the fields have run out: the rest of the line is literal
+  rest-literal : next ≡ found .count → length line ≡ place + length (literals (drop place line))
+  rest-literal e = no-next (m .at-field) (omega (arith, listed .counted))
+
+  -- the rest of the line is measured, and the line begins again
+  pub measuring-again : used < length es → next ≡ found .count
+      → Measuring line es room found (bytes + (length line - place + 1)) spilled 0 0 used
+  measuring-again h e =
+      let first = rest-literal e in
+      let same : bytes + (length line - place) + 1 ≡ bytes + (length line - place + 1) = omega arith in
+      record {
+        measures = rw same at (place-line (place-literals (m .measures) first) ready h refl);
+        spills = spills-line (spills-literals (m .spills) first) ready h refl;
+        at-field = at-first line;
+        few = omega arith;
+        within = omega arith;
+        checks = m .checks;
+      }
+
+  -- an element in the next field is checked and measured
+  pub measuring-turn : {f : Field} {n : ℕ} (d e : Element) → NextField line next place f → used < length es → (next ≡ found .count → ⊥)
+      → getD es used d ≡ e
+      → checkElement room used e ≡ done tt
+      → ((field : List ℕ) → f .image ≡ scannedImage field → n ≡ elementSpills field e)
+      → Measuring line es room found (bytes + (f .start + f .length - place)) (spilled + n) (f .start + f .length) (next + 1) (used + 1)
+  measuring-turn {f} {n} d e x h some same checked spill =
+      let start : ℕ = f .start in
+      let size : ℕ = f .length in
+      let more : start ≡ length line → ⊥ = λ z. omega (arith, x .there) in
+      let sum : bytes + (start - place) + size ≡ bytes + (start + size - place) = omega (arith, x .first) in
+      let part : start + size - start ≡ size = omega arith in
+      let counts : n ≡ elementSpills (take (start + size - start) (drop start line)) e =
+      spill (take (start + size - start) (drop start line)) (x .image-read ∙ ap (λ (k : ℕ). scannedImage (take k (drop start line))) (sym part)) in
+      record {
+        measures = rw sum at (turn-place (m .measures) (x .first) more (x .found) h);
+        spills = turn-spills (m .measures) (x .first) more (x .found) d e (m .spills) h same counts;
+        at-field = x .on;
+        few = omega (arith, m .few);
+        within = omega (arith, m .within, some);
+        checks = elements-next room used es d h (ap (checkElement room used) same ∙ checked) ∙ m .checks;
+      }
+
+  -- the code's next field
+  pub measuring-field : next < found .count → NextField line next place (getD (found .fields) next noField)
+  measuring-field h =
+      listed-next noField listed (m .at-field) h (omega (arith, m .few, m .measures .within, ready .few))
+
+  -- the bytes up to its end are not too many
+  pub measuring-field-small : {f : Field} → NextField line next place f → used < length es → bytes + (f .start + f .length - place) ≤ mostBytes
+  measuring-field-small {f} x h =
+      let more : f .start ≡ length line → ⊥ = λ z. omega (arith, x .there) in
+      omega (arith, place-small (turn-place (m .measures) (x .first) more (x .found) h) ready, x .first)
+
+  -- no sum of bytes is too large
+  pub measuring-small : bytes ≤ mostBytes
+  measuring-small = place-small (m .measures) ready
+
+  -- the elements have run out: the literal bytes up to the next field, or to the line's end, are the last
+  measuring-last : {start : ℕ} → length es ≤ used → start ≡ place + length (literals (drop place line))
+      → (texts : List ℕ)
+      → done (record { size = bytes + (start - place); spilled = spilled }) ≡ countsOf (measured room texts line es)
+  measuring-last {start} u first texts =
+      let all : used ≡ length es = omega (arith, m .measures .within) in
+      measured-so room texts line es
+      (sym (m .checks) ∙ elements-end room used es u)
+      (place-ends (place-literals (m .measures) first) all (literals-at line place first) texts)
+      (spills-end (m .spills) all texts)
+
+  -- before a field
+  pub measuring-ends : {f : Field} → length es ≤ used → NextField line next place f
+      → (texts : List ℕ)
+      → done (record { size = bytes + (f .start - place); spilled = spilled }) ≡ countsOf (measured room texts line es)
+  measuring-ends u x texts = measuring-last u (x .first) texts
+
+  -- at the line's end
+  pub measuring-over : length es ≤ used → found .count ≤ next
+      → (texts : List ℕ)
+      → done (record { size = bytes + (length line - place); spilled = spilled }) ≡ countsOf (measured room texts line es)
+  measuring-over u n texts = measuring-last u (rest-literal (omega (arith, m .within))) texts
+
+  -- and no sum is too large there
+  pub measuring-end-small : {f : Field} → NextField line next place f → bytes + (f .start - place) ≤ mostBytes
+  measuring-end-small x = place-small (place-literals (m .measures) (x .first)) ready
+
+  pub measuring-over-small : found .count ≤ next → bytes + (length line - place) ≤ mostBytes
+  measuring-over-small n = place-small (place-literals (m .measures) (rest-literal (omega (arith, m .within)))) ready

@@ -1,26 +1,25 @@
 -- Laws of a record's line: its texts one after the other, and how the code writes them. Assumes nothing.
-use Prim.Native.Nat.{ℕ, zero, suc, _+_, _-_, _<_, _≤_}
+use Prim.Native.Nat.{ℕ, zero, suc, _+_, _<_, _≤_}
 use mathlib.Core.Path.{_≡_, refl, ap, ap₂, sym, _∙_}
 use mathlib.Core.List.{List, [], _∷_, _++_, append-assoc, append-nil}
 use native.Mathlib.Omega.{arith}
 use native.Mathlib.Numerals.{add-one}
-use lib.ListN.{length, take, drop, getD, set, length-append, length-drop, drop-of-length-le}
-use lib.Seq.{drop-drop, take-all, length-take-le, getD-take}
+use lib.ListN.{length, take, getD, set, length-append, length-drop}
+use lib.Seq.{take-all, length-take-le, getD-take}
 use Rattle.decimal.specs.declared.image.Image.{Image}
 use Rattle.decimal.specs.declared.number.Number.{Number}
 use Rattle.decimal.specs.declared.refusal.Refusal.{Refusal}
-use Rattle.decimal.specs.Answer.{Answer, done, _then_}
-use Rattle.codec.specs.declared.body.WriteAnswer.{WriteAnswer}
-use Rattle.codec.specs.declared.body.WriteAnswer.the-variants as writes
-use Rattle.codec.specs.Lists.{storedIn}
-use Rattle.codec.specs.Contents.{AllChecked, none, more}
-use Rattle.codec.specs.Body.{written, sized, writeMeaning}
+use Rattle.decimal.specs.Answer.{Answer, done, _then_, given}
+use Rattle.codec.specs.declared.answers.WriteAnswer.{WriteAnswer}
+use Rattle.codec.specs.declared.answers.WriteAnswer.the-variants as writes
+use Rattle.codec.specs.Columns.{AllChecked, none, more}
+use Rattle.codec.specs.Answers.{written, sized, writeMeaning}
 use Rattle.codec.specs.Alpha.{blankByte, alphaUnder, alphaTexts, parted, convertingUnder}
 use Rattle.decimal.proofs.AnswerLaws.{never-done}
 use Rattle.codec.proofs.LineLaws.{texts-view}
 use Rattle.codec.specs.Walking.{lineEnd}
-use Rattle.records.specs.Listing.{recordLine, given, HasTexts}
-use Rattle.records.proofs.WritingLaws.{written-empty, kept-length, next-bytes, next-byte}
+use Rattle.records.specs.Listing.{recordLine, HasTexts}
+use Rattle.records.proofs.WritingLaws.{written-empty, kept-length, next-bytes, next-byte, partBehind, behind-all}
 use Rattle.records.proofs.ReportLaws.{within-some}
 
 -- The texts of a record, one after the other.
@@ -281,24 +280,6 @@ pub part-converted :
     (im : Image) (n : Number) (b : List ℕ) (out : ℕ) {text : List ℕ}
     → alphaUnder im n ≡ done text
     → out + length text ≤ length b
-    → convertingUnder im n (length (take (length b - out) (drop out b))) ≡ done text
-part-converted im n b out {text} h l =
-    let size = length-drop out b in
-    let part = length-take-le (length b - out) (drop out b) (omega arith) in
-    text-converted im n (length (take (length b - out) (drop out b))) h (omega arith)
-
--- it is lent and comes back with the text at its start
-pub part-written :
-    (b : List ℕ) (out : ℕ) (text : List ℕ) {last : List ℕ}
-    → last ≡ storedIn (done text) (take (length b - out) (drop out b))
-    → take out b ++ (last ++ drop (length b - out) (drop out b)) ≡ written b out text
-unfolding storedIn written
-part-written b out text {last} h =
-    let size = length-drop out b in
-    let whole : take (length b - out) (drop out b) ≡ drop out b = take-all (length b - out) (drop out b) (omega arith) in
-    let none : drop (length b - out) (drop out b) ≡ [] = drop-of-length-le (drop out b) {i = length b - out} (omega arith) in
-    let stored : last ≡ text ++ drop (out + length text) b =
-    h ∙ ap (λ (l : List ℕ). text ++ drop (length text) l) whole ∙ ap (λ (l : List ℕ). text ++ l) (drop-drop (length text) out b) in
-    ap₂ (λ (x y : List ℕ). take out b ++ (x ++ y)) stored none
-    ∙ ap (λ (l : List ℕ). take out b ++ l) (append-nil (text ++ drop (out + length text) b))
-    ∙ sym (append-assoc (take out b) text (drop (out + length text) b))
+    → convertingUnder im n (length (partBehind b out)) ≡ done text
+part-converted im n b out h l =
+    text-converted im n (length (partBehind b out)) h (omega (arith, ap length (behind-all b out), length-drop out b))

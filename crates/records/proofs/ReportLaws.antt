@@ -13,8 +13,7 @@ use lib.Seq.{append-snoc}
 use Rattle.decimal.specs.Answer.{Answer, done, refused, _then_, pick}
 use Rattle.decimal.specs.Digits.{digitsOf}
 use Rattle.decimal.proofs.DigitLaws.{le-or-lt}
-use Rattle.codec.specs.Lists.{storedIn}
-use Rattle.codec.specs.Body.{within, written, sized}
+use Rattle.codec.specs.Answers.{storedIn, within, written, sized}
 use Rattle.codec.specs.Alpha.{blankByte, digitBytes}
 use Rattle.codec.specs.Walking.{lineEnd}
 use Rattle.records.specs.Writing.{withoutZeros, decimalText}

@@ -7,15 +7,16 @@ use mathlib.Core.Path.{_≡_, refl, ap, sym, _∙_}
 use mathlib.Core.List.{List, [], _∷_}
 use mathlib.Core.Bool.{Bool, true, false, false≢true}
 use lib.Dec.{eqb}
-use lib.ListN.{length, drop, getD, drop-of-length-le}
-use lib.Seq.{drop-cons}
+use lib.ListN.{length, take, drop, getD, length-drop, drop-of-length-le}
+use lib.Seq.{drop-cons, getD-drop}
 use borrow.Author.Tests.{ne-eqb}
-use Rattle.decimal.specs.declared.image.State.{State}
-use Rattle.decimal.specs.declared.image.State.the-variants.{Start, Signed, Integer, Comma, Point, Fraction, Up, Stopped}
+use Rattle.decimal.specs.Image.{State, Start, Signed, Integer, Comma, Point, Fraction, Up, Stopped}
 use Rattle.decimal.specs.Answer.{pick}
-use Rattle.decimal.specs.Image.{nextState}
-use Rattle.decimal.proofs.ImageTails.{ByteView, isPlus, isMinus, isHash, isPoint, isComma, isUp, isOther, view}
-use Rattle.records.specs.Scanning.{isField, isStopped, longestFrom, fieldLength}
+use Rattle.decimal.specs.Image.{nextState, runState, integerHash, fractionHash, isExponential, counted, integersFrom, fractionsFrom, scannedImage}
+use Rattle.decimal.proofs.ImageLaws.{hash-once}
+use Rattle.decimal.proofs.ImageTails.{stopped-stays}
+use Rattle.records.specs.declared.scanning.Scanned.{Scanned}
+use Rattle.records.specs.Scanning.{isField, isStopped, longestFrom, fieldLength, scannedField}
 
 -- what is found later, else the best so far
 abbrev pub later : ℕ → ℕ → ℕ
@@ -36,22 +37,7 @@ later-turn zero read best true = rw (suc-eqb read)
 later-turn zero read best false = refl
 later-turn (suc k) read best t = simp suc-eqb
 
--- no byte leads out of the state in which no field begins
-stopped-view : {b : ℕ} → ByteView b → nextState Stopped b ≡ Stopped
-unfolding nextState
-stopped-view isPlus = refl
-stopped-view isMinus = refl
-stopped-view isHash = refl
-stopped-view isPoint = refl
-stopped-view isComma = refl
-stopped-view isUp = refl
-stopped-view (isOther e) = e Stopped
-
--- the same of each byte
-pub stopped-stays : (b : ℕ) → nextState Stopped b ≡ Stopped
-stopped-stays b = stopped-view (view b)
-
--- from that state on no field is found
+-- from the state in which no field begins none is found
 pub stopped-none : (read : ℕ) (bytes : List ℕ) → longestFrom Stopped read bytes ≡ 0
 unfolding longestFrom
 stopped-none read [] = refl
@@ -133,3 +119,187 @@ unfolding longestFrom
 searching-ends {line} {start} {s} {longest} {end} r h =
     let none : drop end line ≡ [] = drop-of-length-le line h in
     sym (ap (λ (l : List ℕ). later (longestFrom s (end - start) l) longest) none) ∙ r .finds
+
+-- What was read of bytes, one byte more.
+
+-- the state leads on
+run-more : (s : State) (bs : List ℕ) (n : ℕ) → n < length bs → runState s (take (suc n) bs) ≡ nextState (runState s (take n bs)) (getD bs n 0)
+unfolding runState
+run-more s [] n h = absurd (omega arith)
+run-more s (b ∷ bs) zero h = refl
+run-more s (b ∷ bs) (suc n) h = run-more (nextState s b) bs n (omega arith)
+
+-- a count goes on
+counted-on : (t : Bool) (a b c : ℕ) → a ≡ b + c → counted t a ≡ counted t b + c
+counted-on true a b c e = omega arith
+counted-on false a b c e = omega arith
+
+-- the # signs before the point
+integers-more : (s : State) (bs : List ℕ) (n : ℕ) → n < length bs
+    → integersFrom s (take (suc n) bs) ≡ integersFrom s (take n bs) + counted (integerHash (runState s (take (suc n) bs))) 0
+unfolding runState integersFrom
+integers-more s [] n h = absurd (omega arith)
+integers-more s (b ∷ bs) zero h = omega arith
+integers-more s (b ∷ bs) (suc n) h = counted-on (integerHash (nextState s b)) _ _ _ (integers-more (nextState s b) bs n (omega arith))
+
+-- and behind it
+fractions-more : (s : State) (bs : List ℕ) (n : ℕ) → n < length bs
+    → fractionsFrom s (take (suc n) bs) ≡ fractionsFrom s (take n bs) + counted (fractionHash (runState s (take (suc n) bs))) 0
+unfolding runState fractionsFrom
+fractions-more s [] n h = absurd (omega arith)
+fractions-more s (b ∷ bs) zero h = omega arith
+fractions-more s (b ∷ bs) (suc n) h = counted-on (fractionHash (nextState s b)) _ _ _ (fractions-more (nextState s b) bs n (omega arith))
+
+-- a # always ends a field
+hash-field : (s : State) → isField s ≡ false → (counted (integerHash s) 0 ≡ 0) × (counted (fractionHash s) 0 ≡ 0)
+hash-field Start h = (refl, refl)
+hash-field Signed h = (refl, refl)
+hash-field (Integer g) h = absurd (false≢true (sym h))
+hash-field Comma h = (refl, refl)
+hash-field (Point g) h = (refl, refl)
+hash-field (Fraction g) h = absurd (false≢true (sym h))
+hash-field (Up n) h = (refl, refl)
+hash-field Stopped h = (refl, refl)
+
+-- the state after so many bytes, and the counts and the kind of the longest field so far; the bytes behind it have no # sign
+pub record Kept (bytes : List ℕ) (read : ℕ) (state : State) (longest integer fraction : ℕ) (exponential : Bool) : Type 0 where
+  pub few : integer + fraction ≤ read
+  pub comes : state ≡ runState Start (take read bytes)
+  pub integers : integer ≡ integersFrom Start (take read bytes)
+  pub fractions : fraction ≡ fractionsFrom Start (take read bytes)
+  pub own-integers : integer ≡ integersFrom Start (take longest bytes)
+  pub own-fractions : fraction ≡ fractionsFrom Start (take longest bytes)
+  pub kind : exponential ≡ isExponential (runState Start (take longest bytes))
+
+-- before the first byte
+kept-starts : (bytes : List ℕ) → Kept bytes 0 Start 0 0 0 false
+unfolding runState integersFrom fractionsFrom
+kept-starts bytes =
+    record {
+      few = omega arith;
+      comes = refl;
+      integers = refl;
+      fractions = refl;
+      own-integers = refl;
+      own-fractions = refl;
+      kind = refl;
+    }
+
+module _ {bytes : List ℕ} {read : ℕ} {s t : State} {longest integer fraction : ℕ} {exponential : Bool}
+    (k : Kept bytes read s longest integer fraction exponential) (h : read < length bytes) (e : t ≡ nextState s (getD bytes read 0)) where
+  -- the next state
+  next-comes : t ≡ runState Start (take (suc read) bytes)
+  next-comes = e ∙ ap (λ (x : State). nextState x (getD bytes read 0)) (k .comes) ∙ sym (run-more Start bytes read h)
+
+  -- the next counts
+  next-integers : integersFrom Start (take (suc read) bytes) ≡ integer + counted (integerHash t) 0
+  next-integers =
+      integers-more Start bytes read h
+      ∙ ap (λ (x : State). integersFrom Start (take read bytes) + counted (integerHash x) 0) (sym next-comes)
+      ∙ ap (λ (n : ℕ). n + counted (integerHash t) 0) (sym (k .integers))
+
+  next-fractions : fractionsFrom Start (take (suc read) bytes) ≡ fraction + counted (fractionHash t) 0
+  next-fractions =
+      fractions-more Start bytes read h
+      ∙ ap (λ (x : State). fractionsFrom Start (take read bytes) + counted (fractionHash x) 0) (sym next-comes)
+      ∙ ap (λ (n : ℕ). n + counted (fractionHash t) 0) (sym (k .fractions))
+
+  -- a field ends here
+  kept-field : {i f : ℕ} {x : Bool} → i ≡ counted (integerHash t) 0 → f ≡ counted (fractionHash t) 0 → x ≡ isExponential t
+      → Kept bytes (suc read) t (suc read) (integer + i) (fraction + f) x
+  kept-field {i} {f} {x} p q z =
+      let many : integer + i ≡ integersFrom Start (take (suc read) bytes) = omega (arith, next-integers) in
+      let rest : fraction + f ≡ fractionsFrom Start (take (suc read) bytes) = omega (arith, next-fractions) in
+      record {
+        few = omega (arith, hash-once t p q, k .few);
+        comes = next-comes;
+        integers = many;
+        fractions = rest;
+        own-integers = many;
+        own-fractions = rest;
+        kind = z ∙ ap isExponential next-comes;
+      }
+
+  -- none does
+  kept-none : isField t ≡ false → Kept bytes (suc read) t longest integer fraction exponential
+  kept-none z =
+      record {
+        few = omega (arith, k .few);
+        comes = next-comes;
+        integers = omega (arith, next-integers, hash-field t z .0);
+        fractions = omega (arith, next-fractions, hash-field t z .1);
+        own-integers = k .own-integers;
+        own-fractions = k .own-fractions;
+        kind = k .kind;
+      }
+
+-- The scanner's loop: the longest field so far, with its counts and kind.
+
+pub record Scanning (line : List ℕ) (start : ℕ) (longest integer fraction : ℕ) (exponential : Bool) (state : State) (end : ℕ) : Type 0 where
+  pub searching : Searching line start state longest end
+  pub kept : Kept (drop start line) (end - start) state longest integer fraction exponential
+
+-- before the first byte
+pub scanning-starts : (line : List ℕ) (start : ℕ) → Scanning line start 0 0 0 false Start start
+scanning-starts line start =
+    let none : start - start ≡ 0 = omega arith in
+    record { searching = searching-starts line start; kept = rw none (kept-starts (drop start line)) }
+
+module _ {line : List ℕ} {start : ℕ} {s t : State} {longest integer fraction end : ℕ} {exponential : Bool}
+    (r : Scanning line start longest integer fraction exponential s end) (h : end < length line) (e : t ≡ nextState s (getD line end 0)) where
+  -- the byte is the next of those from the start on
+  same-byte : t ≡ nextState s (getD (drop start line) (end - start) 0)
+  same-byte =
+      let n : start + (end - start) ≡ end = omega (arith, r .searching .behind) in
+      e ∙ ap (nextState s) (ap (λ (k : ℕ). getD line k 0) (sym n) ∙ sym (getD-drop start line (end - start) 0))
+
+  -- so many bytes are left
+  more-bytes : end - start < length (drop start line)
+  more-bytes = omega (arith, r .searching .behind, length-drop start line)
+
+  -- one byte more was read
+  one-more : suc (end - start) ≡ end + 1 - start
+  one-more = omega (arith, r .searching .behind)
+
+  -- where a field ends here
+  pub scanning-field : {i f : ℕ} {x : Bool} → isField t ≡ true → i ≡ counted (integerHash t) 0 → f ≡ counted (fractionHash t) 0
+      → x ≡ isExponential t → Scanning line start (end + 1 - start) (integer + i) (fraction + f) x t (end + 1)
+  scanning-field w p q z =
+      record {
+        searching = searching-field (r .searching) h e w;
+        kept = rw one-more at (kept-field (r .kept) more-bytes same-byte p q z);
+      }
+
+  -- where none does
+  pub scanning-none : isField t ≡ false → Scanning line start longest integer fraction exponential t (end + 1)
+  scanning-none w =
+      record {
+        searching = searching-none (r .searching) h e w;
+        kept = rw one-more at (kept-none (r .kept) more-bytes same-byte w);
+      }
+
+-- the longest field so far is the field
+scanning-found : {line : List ℕ} {start : ℕ} {s : State} {longest integer fraction end : ℕ} {exponential : Bool}
+    → Scanning line start longest integer fraction exponential s end → longest ≡ fieldLength (drop start line)
+    → record { length = longest; integer = integer; fraction = fraction; exponential = exponential } ≡ scannedField (drop start line)
+unfolding scannedField scannedImage
+scanning-found {line} {start} r e =
+    let k = r .kept in
+    λ i. record {
+      length = e i;
+      integer = (k .own-integers ∙ ap (λ (n : ℕ). integersFrom Start (take n (drop start line))) e) i;
+      fraction = (k .own-fractions ∙ ap (λ (n : ℕ). fractionsFrom Start (take n (drop start line))) e) i;
+      exponential = (k .kind ∙ ap (λ (n : ℕ). isExponential (runState Start (take n (drop start line)))) e) i;
+    }
+
+-- where no field begins so
+pub scanning-stops : {line : List ℕ} {start : ℕ} {s t : State} {longest integer fraction end : ℕ} {exponential : Bool}
+    → Scanning line start longest integer fraction exponential s end → end < length line → t ≡ nextState s (getD line end 0) → isStopped t ≡ true
+    → record { length = longest; integer = integer; fraction = fraction; exponential = exponential } ≡ scannedField (drop start line)
+scanning-stops r h e z = scanning-found r (searching-stops (r .searching) h e z)
+
+-- behind the last byte
+pub scanning-ends : {line : List ℕ} {start : ℕ} {s : State} {longest integer fraction end : ℕ} {exponential : Bool}
+    → Scanning line start longest integer fraction exponential s end → length line ≤ end
+    → record { length = longest; integer = integer; fraction = fraction; exponential = exponential } ≡ scannedField (drop start line)
+scanning-ends r h = scanning-found r (searching-ends (r .searching) h)

@@ -21,7 +21,8 @@ use Rattle.records.specs.declared.fields.Element.{Element}
 use Rattle.records.specs.declared.fields.Element.the-variants as element
 use Rattle.records.specs.declared.printing.PrintAnswer.the-variants as gives
 use Rattle.records.specs.Scanning.{fieldLength}
-use Rattle.records.specs.Fields.{shownIn, numberIn, orField, spilledBy, elementBytes, elementSpills, FieldReady}
+use Rattle.records.specs.Marks.{documentMarks}
+use Rattle.records.specs.Fields.{shownIn, numberMarked, numberIn, orField, spilledBy, elementBytes, elementSpills, FieldReady}
 use Rattle.codec.specs.Walking.{lineEnd}
 use Rattle.records.specs.Printing.{literals, firstField, behindField, hasField, Print, andThen, oneField, printFrom}
 use Rattle.records.specs.Printing.{checkFields, checkElement, checkElements, checkSome, checkCounts, printed, roomFor, printing}
@@ -53,11 +54,11 @@ module _ (field : List ℕ) (n : Number) where
     where
       go : (a : Answer Truncated) → truncation 0 (scannedImage field) n ≡ a → orField field (numberIn field n) ≡ field
       go (done t) e = absurd (spilled-refused h t e)
-      go (refused number place) e = number-refused field n e
+      go (refused number place) e = number-refused documentMarks field n e
 
   -- and counts once
   spilled-once : isSpilled field (element.Number n) ≡ true → spilledBy (numberIn field n) ≡ 1
-  unfolding numberIn spilledBy _then_
+  unfolding numberMarked spilledBy _then_
   spilled-once h = go (truncation 0 (scannedImage field) n) refl
     where
       go : (a : Answer Truncated) → truncation 0 (scannedImage field) n ≡ a
@@ -67,7 +68,7 @@ module _ (field : List ℕ) (n : Number) where
 
   -- a number in normal form that is not spilled does not count
   shown-not : FieldReady field → normal n ≡ true → isSpilled field (element.Number n) ≡ false → spilledBy (numberIn field n) ≡ 0
-  unfolding isSpilled numberIn spilledBy _then_
+  unfolding isSpilled numberMarked spilledBy _then_
   shown-not ready plain h =
       let fit : Fit (scannedImage field) n =
       record { nonempty = field-some ready; size = ready .fits; number-checked = plain; within = h } in

@@ -10,17 +10,17 @@ use mathlib.Core.Logic.{_⊎_, inl, inr, ⊎-elim}
 use mathlib.Core.List.{List, [], _∷_, _++_, append-nil, append-assoc}
 use mathlib.Core.Bool.{Bool, true, false}
 use lib.Dec.{eqb}
-use lib.ListN.{length, take, drop, getD, set, length-append, take-append-drop}
-use lib.Seq.{paste, paste-suc, append-snoc, take-set-le, set-split, drop-at, length-take-le}
-use Rattle.decimal.specs.Answer.{pick}
+use lib.ListN.{length, take, drop, getD, set, length-append, length-drop, take-append-drop, drop-of-length-le}
+use lib.Seq.{paste, paste-suc, append-snoc, take-set-le, set-split, drop-at, drop-drop, take-all, take-length, length-take-le}
+use Rattle.decimal.specs.Answer.{done, pick}
 use Rattle.decimal.specs.Digits.{digitsOf, valueOf, zeros, Digits}
 use Rattle.decimal.proofs.PowerLaws.{pow10-pos, pow10-suc, pow10-mono}
 use Rattle.decimal.proofs.DigitLaws.{le-or-lt, digits-length, digits-last, digits-padded, digits-are-digits}
 use Rattle.decimal.proofs.DigitLaws.{value-of-digits, value-below, digits-of-value}
+use Rattle.codec.specs.Answers.{storedIn, written}
 use Rattle.codec.specs.Alpha.{zeroByte, digitBytes}
-use Rattle.codec.specs.Body.{written}
 use Rattle.codec.proofs.BufferLaws.{written-length, written-next}
-use Rattle.codec.proofs.PartLaws.{digit-bytes-length}
+use Rattle.codec.proofs.AlphaLaws.{digit-bytes-length}
 use Rattle.records.specs.Writing.{wholeDigits, withoutZeros, decimalText}
 
 -- Bytes written one by one.
@@ -70,6 +70,44 @@ module _
   pub next-byte : (byte : ℕ) → place < length b → set now place byte ≡ written b start (s ++ (byte ∷ []))
   next-byte byte room =
       written-byte now place byte (omega (arith, kept-length (omega arith))) ∙ next-bytes (byte ∷ []) (omega arith)
+
+-- Bytes written into a part of a buffer that is lent.
+
+-- what follows a place, as the code lends it
+abbrev pub partBehind : List ℕ → ℕ → List ℕ
+partBehind b place = take (length b - place) (drop place b)
+
+-- the whole buffer, with other bytes in that part
+abbrev pub putBehind : List ℕ → ℕ → List ℕ → List ℕ
+putBehind b place bytes = take place b ++ (bytes ++ drop (length b - place) (drop place b))
+
+-- the part goes to the buffer's end
+pub behind-all : (b : List ℕ) (place : ℕ) → partBehind b place ≡ drop place b
+behind-all b place = take-all (length b - place) (drop place b) (omega (arith, length-drop place b))
+
+-- so no byte stands behind it
+behind-none : (b : List ℕ) (place : ℕ) → drop (length b - place) (drop place b) ≡ []
+behind-none b place = drop-of-length-le (drop place b) {i = length b - place} (omega (arith, length-drop place b))
+
+-- it comes back with bytes at its start: they are written from the place on
+pub part-written :
+    (b : List ℕ) (place : ℕ) (bytes : List ℕ) {last : List ℕ}
+    → last ≡ storedIn (done bytes) (partBehind b place)
+    → putBehind b place last ≡ written b place bytes
+unfolding storedIn written
+part-written b place bytes {last} h =
+    let stored : last ≡ bytes ++ drop (place + length bytes) b =
+    h
+    ∙ ap (λ (l : List ℕ). bytes ++ drop (length bytes) l) (behind-all b place)
+    ∙ ap (λ (l : List ℕ). bytes ++ l) (drop-drop (length bytes) place b) in
+    ap₂ (λ (x y : List ℕ). take place b ++ (x ++ y)) stored (behind-none b place)
+    ∙ ap (λ (l : List ℕ). take place b ++ l) (append-nil (bytes ++ drop (place + length bytes) b))
+    ∙ sym (append-assoc (take place b) bytes (drop (place + length bytes) b))
+
+-- and so it does where they are copied into it
+pub part-copied : (bytes part : List ℕ) → take (length bytes) bytes ++ drop (length bytes) part ≡ storedIn (done bytes) part
+unfolding storedIn
+part-copied bytes part = ap (λ (l : List ℕ). l ++ drop (length bytes) part) (take-length bytes)
 
 -- Digits without the zeros that they begin with.
 

@@ -6,7 +6,7 @@ use lib.ListN.{length, take}
 use Rattle.decimal.specs.declared.number.Number.{Number}
 use Rattle.decimal.specs.Answer.{done}
 use Rattle.codec.specs.Contents.{Table}
-use Rattle.codec.specs.Body.{written}
+use Rattle.codec.specs.Answers.{written}
 use Rattle.codec.specs.Unpacking.{unpackBody}
 use Rattle.codec.specs.Order.{Truncations}
 use Rattle.records.specs.Files.{readFile, recordCount, bodiesIn, shown, shownPart}

@@ -12,7 +12,7 @@ use Rattle.decimal.specs.Answer.{Answer, done, _then_}
 use Rattle.decimal.specs.Digits.{comesBefore}
 use Rattle.decimal.specs.Image.{imageBytes}
 use Rattle.codec.specs.Contents.{Table, readAlone}
-use Rattle.codec.specs.Body.{bodyOf}
+use Rattle.codec.specs.Packing.{bodyOf}
 use Rattle.codec.specs.Unpacking.{unpacking}
 use Rattle.codec.specs.Order.{AllUnsignedFixed, truncatedMagnitudes, FirstSmaller, Truncations}
 use Rattle.codec.specs.Alpha.{alphaTexts}

@@ -5,8 +5,10 @@ use lib.ListN.{length, take, drop}
 use lib.Dec.{ltb, eqb}
 use Rattle.decimal.specs.declared.number.Number.{Number}
 use Rattle.decimal.specs.Answer.{Answer, done, refused, _then_, pick}
-use Rattle.codec.specs.Contents.{Table, bodySize, readContents, readAlone}
-use Rattle.codec.specs.Body.{packList, within, written}
+use Rattle.codec.specs.Columns.{bodySize}
+use Rattle.codec.specs.Contents.{Table, readContents, readAlone}
+use Rattle.codec.specs.Answers.{within, written}
+use Rattle.codec.specs.Packing.{packList}
 use Rattle.records.specs.declared.files.AddAnswer.{AddAnswer}
 use Rattle.records.specs.declared.files.AddAnswer.the-variants as adds
 use Rattle.records.specs.declared.files.ShowAnswer.{ShowAnswer}

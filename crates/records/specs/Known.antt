@@ -12,15 +12,16 @@ use Rattle.decimal.specs.Image.{hashByte, pointByte, commaByte, plusByte, minus
 use Rattle.decimal.specs.Image.{integersFrom, fractionsFrom, leadingSign, checkImage, scannedImage, readImage}
 use Rattle.decimal.specs.Truncation.{wholeOf, exceeds, exponentOutside, storedExponent, truncatedTo, limited, truncation, packable}
 use Rattle.decimal.specs.Truncation.{packedTruncation, numberOf}
-use Rattle.codec.specs.Contents.{columnSize, bodySize, readColumn, columnLength, readColumns, columnsLength, readContents, readAlone}
-use Rattle.codec.specs.Body.{exponentSize, signHalf, signHalves, exponentHalves, columnHalves, packHalves, columnBytes, packColumns}
-use Rattle.codec.specs.Body.{packList, bodyOf}
-use Rattle.codec.specs.Unpacking.{halvesOf, allDigits, allZero, signPart, digitPart, exponentPart, padPart, saidBy, breaksRules, asHalf}
-use Rattle.codec.specs.Unpacking.{partsNumber, halvesNumber, unpackColumn, unpackColumns, unpackBody, unpacking}
+use Rattle.codec.specs.Columns.{columnSize, bodySize}
+use Rattle.codec.specs.Contents.{readColumn, columnLength, readColumns, columnsLength, readContents, readAlone}
+use Rattle.codec.specs.Halves.{packHalves, halvesOf}
+use Rattle.codec.specs.Packing.{exponentSize, signHalf, signHalves, exponentHalves, columnHalves, columnBytes, packColumns, packList, bodyOf}
+use Rattle.codec.specs.Unpacking.{allDigits, allZero, signPart, digitPart, exponentPart, padPart, saidBy, breaksRules, asHalf, partsNumber, halvesNumber, unpackColumn, unpackColumns, unpackBody, unpacking}
 use Rattle.codec.specs.Alpha.{blankByte, exponentByte, digitBytes, signText, fractionText, exponentText, alphaText, alphaUnder, alphaOf}
 use Rattle.records.specs.declared.fields.Element.the-variants as element
 use Rattle.records.specs.Scanning.{longestFrom, fieldLength}
-use Rattle.records.specs.Fields.{signByteOf, fillByte, fillNext, fillBytes, shownIn, numberIn, orField, spilledBy, elementBytes}
+use Rattle.records.specs.Marks.{withDecimal}
+use Rattle.records.specs.Fields.{signByteOf, fillByte, fillNext, fillBytes, shownMarked, numberMarked, orField, spilledBy, elementBytes}
 use Rattle.records.specs.Fields.{elementSpills}
 use Rattle.records.specs.Printing.{literals, firstField, behindField, hasField, Print, andThen, oneField, printFrom, checkFields}
 use Rattle.records.specs.Printing.{checkElement, checkElements, checkSome, checkCounts, printed}
@@ -125,7 +126,7 @@ unfolding oneColumn textUnder bodyUnder lineUnder signs# ups↑↑↑↑ times _
     columnLength readColumns columnsLength readContents readAlone exponentSize signHalf signHalves exponentHalves columnHalves packHalves
     columnBytes packColumns packList bodyOf halvesOf allDigits allZero signPart digitPart exponentPart padPart saidBy breaksRules asHalf
     partsNumber halvesNumber unpackColumn unpackColumns unpackBody unpacking digitBytes signText fractionText exponentText alphaText alphaUnder alphaOf
-    longestFrom fieldLength signByteOf fillByte fillNext fillBytes shownIn numberIn orField spilledBy elementBytes elementSpills literals
+    longestFrom fieldLength signByteOf fillByte fillNext fillBytes withDecimal shownMarked numberMarked orField spilledBy elementBytes elementSpills literals
     firstField behindField hasField andThen oneField printFrom checkFields checkElement checkElements checkSome checkCounts printed
 known-values =
     record {

@@ -1,8 +1,11 @@
 pub mod Writing
 pub mod Scanning
 pub mod KnownFields
+pub mod Marks
 pub mod Fields
+pub mod KnownMarks
 pub mod Printing
+pub mod Finding
 pub mod Spilling
 pub mod Files
 pub mod Adding

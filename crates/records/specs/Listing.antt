@@ -6,10 +6,11 @@ use lib.ListN.{length}
 use lib.Dec.{ltb}
 use Rattle.decimal.specs.declared.image.Image.{Image}
 use Rattle.decimal.specs.declared.number.Number.{Number}
-use Rattle.decimal.specs.Answer.{Answer, done, refused, _then_, pick}
+use Rattle.decimal.specs.Answer.{Answer, done, refused, _then_, pick, given}
 use Rattle.codec.specs.declared.contents.Contents.{Contents}
-use Rattle.codec.specs.Contents.{Table, AllChecked, contentsOf}
-use Rattle.codec.specs.Body.{within}
+use Rattle.codec.specs.Columns.{AllChecked}
+use Rattle.codec.specs.Contents.{Table, contentsOf}
+use Rattle.codec.specs.Answers.{within}
 use Rattle.codec.specs.Unpacking.{unpackBody}
 use Rattle.codec.specs.Alpha.{blankByte, alphaTexts, parted}
 use Rattle.codec.specs.Walking.{lineEnd}
@@ -86,11 +87,6 @@ reportOf input = printedOf (pick (ltb maxFile (length input)) (refused 11 0) (li
 -- a file whose bodies can all be read: refused as its listing is
 unfoldable pub checkedFile : List ℕ → Answer Table
 checkedFile file = readFile file then λ table. (fileLines table file then λ lines. done table)
-
--- what an answer gives, nothing where it is a refusal
-unfoldable pub given : {A : Type 0} → Answer (List A) → List A
-given (done xs) = xs
-given (refused number place) = []
 
 -- the lines of a file's records, none where the file is refused
 unfoldable pub linesOf : List ℕ → List ℕ

@@ -17,7 +17,6 @@ use Rattle.records.specs.declared.printing.PrintAnswer.{PrintAnswer}
 use Rattle.records.specs.declared.printing.PrintAnswer.the-variants as gives
 use Rattle.records.specs.declared.printing.ForecastAnswer.{ForecastAnswer}
 use Rattle.records.specs.declared.printing.ForecastAnswer.the-variants as bound
-use Rattle.records.specs.declared.printing.Size.{Size}
 use Rattle.codec.specs.Walking.{lineEnd}
 use Rattle.records.specs.Scanning.{fieldLength}
 use Rattle.records.specs.Fields.{elementBytes, elementSpills}
@@ -166,6 +165,10 @@ pub data Reached (line : List ℕ) : ℕ → Type 0 where
 
 -- What the print loops ask and find.
 
+-- what a line prints, where its elements can be printed (13, 3)
+unfoldable pub measured : ℕ → List ℕ → List ℕ → List Element → Answer Print
+measured room texts line es = checkElements room 0 es then λ _. done (printFrom texts line line es)
+
 -- a line that can be measured: it has a field, or there are no elements
 pub record LineReady (line : List ℕ) (es : List Element) : Type 0 where
   pub few : length es ≤ maxElements
@@ -178,8 +181,3 @@ pub record PrintReady (line : List ℕ) (es : List Element) (texts : List ℕ) (
   pub fields : checkFields 0 0 line ≡ done tt
   pub elements : checkElements (length texts) 0 es ≡ done tt
   pub fits : length (printFrom texts line line es .bytes) ≤ room
-
--- what the code measures: the bytes and the spilled count of what is printed
-pub record SizeOf (p : Print) (size : Size) : Type 0 where
-  pub bytes-size : size .bytes ≡ length (p .bytes)
-  pub spills : size .spilled ≡ p .spilled

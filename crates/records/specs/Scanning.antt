@@ -6,10 +6,10 @@ use mathlib.Core.Bool.{Bool, true, false}
 use lib.ListN.{length, take}
 use lib.Dec.{eqb}
 use Rattle.decimal.specs.declared.image.Sign.{Sign}
-use Rattle.decimal.specs.declared.image.State.{State}
-use Rattle.decimal.specs.declared.image.State.the-variants.{Start, Signed, Integer, Comma, Point, Fraction, Up, Stopped}
+use Rattle.decimal.specs.Image.{State, Start, Signed, Integer, Comma, Point, Fraction, Up, Stopped}
 use Rattle.decimal.specs.Answer.{pick}
-use Rattle.decimal.specs.Image.{hashByte, commaByte, ups, signBytes, times, fractionBytes, upBytes, nextState}
+use Rattle.decimal.specs.Image.{hashByte, commaByte, ups, signBytes, times, fractionBytes, upBytes, nextState, scannedImage}
+use Rattle.records.specs.declared.scanning.Scanned.{Scanned}
 
 -- The grammar. A field is an image; in fixed-point fields a single comma may stand directly between two # before the point (anywhere
 -- between two #, if there is no point).
@@ -90,3 +90,13 @@ longestFrom s read (b ∷ bs) =
 -- the length of the field that bytes begin with, 0 where the first byte is literal
 unfoldable pub fieldLength : List ℕ → ℕ
 fieldLength bytes = longestFrom Start 0 bytes
+
+-- the field that bytes begin with: its length, and the # signs and the kind that the machine reads of it; nothing where the first byte is literal
+unfoldable pub scannedField : List ℕ → Scanned
+scannedField bytes =
+    record {
+      length = fieldLength bytes;
+      integer = scannedImage (take (fieldLength bytes) bytes) .integer;
+      fraction = scannedImage (take (fieldLength bytes) bytes) .fraction;
+      exponential = scannedImage (take (fieldLength bytes) bytes) .exponential;
+    }

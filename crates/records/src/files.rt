@@ -1,9 +1,9 @@
 // Record files: the table of contents, then the bodies without gaps (document 01: Record file).
 ghost use mathlib.Core.Path.{_≡_};
 ghost use lib.ListN.{length};
-ghost use Rattle.codec.specs.Lists.{storedIn};
+ghost use Rattle.codec.specs.Answers.{storedIn, sized, writeMeaning};
 ghost use Rattle.codec.specs.Contents.{contentsOf};
-ghost use Rattle.codec.specs.Body.{listOf, sized, writeMeaning};
+ghost use Rattle.codec.specs.Lists.{listOf};
 ghost use Rattle.records.specs.Files.{
   startingFile,
   readFile,
@@ -17,19 +17,16 @@ ghost use Rattle.records.specs.Files.{
   shownPart,
 };
 use crate::writing::write_bytes;
-use codec::CUT_SHORT;
 use codec::Contents;
-use codec::ContentsAnswer;
 use codec::NO_ROOM;
 use codec::Numbers;
+use codec::WRONG_LENGTH;
 use codec::WriteAnswer;
 use codec::pack_under;
 use codec::read_alone;
 use codec::read_contents;
+use decimal::CheckAnswer;
 use decimal::Refusal;
-
-// Refusal 11: a used length past the buffer, or a body of another length, a last one included.
-pub const TORN: u8 = CUT_SHORT;
 
 // Refusal 12: no record of this number.
 pub const NO_RECORD: u8 = 12;
@@ -54,7 +51,7 @@ pub fn write_contents(contents: &[u8], buffer: &mut [u8]) -> WriteAnswer
 {
     let table = read_alone(contents);
     let answer = table.answer;
-    if let ContentsAnswer::Refused(refusal) = answer {
+    if let CheckAnswer::Refused(refusal) = answer {
         return WriteAnswer::Refused(refusal);
     }
     if buffer.len() < contents.len() {
@@ -74,12 +71,12 @@ pub(crate) fn read_file(file: &[u8]) -> Contents
     let table = read_contents(file);
     let answer = table.answer;
     match answer {
-        ContentsAnswer::Refused(_) => table,
-        ContentsAnswer::Read => {
+        CheckAnswer::Refused(_) => table,
+        CheckAnswer::Fine => {
             if (file.len() - table.size) % table.body == 0 {
                 table
             } else {
-                Contents::refused(TORN, 0)
+                Contents::refused(WRONG_LENGTH, 0)
             }
         }
     }
@@ -91,24 +88,24 @@ fn find_place(buffer: &[u8], used: usize) -> Contents
     ensures { λ r. ⌜ r ≡ contentsOf (readUsed (now (buffer .entry)) used) ⌝ }
 {
     if buffer.len() < used {
-        return Contents::refused(TORN, 0);
+        return Contents::refused(WRONG_LENGTH, 0);
     }
     read_file(&buffer[..used])
 }
 
 // Adds a record to the file in the first bytes of a buffer: its body stands behind them, and all other bytes stay.
 // Refused with 11 for the used length, as the file is, with 10, items from the left with 3, 4, 5 and the column, last with 6.
-pub fn add(buffer: &mut [u8], used: usize, numbers: Numbers) -> AddAnswer
+pub fn add(used: usize, numbers: Numbers, buffer: &mut [u8]) -> AddAnswer
     ensures answer { λ r. ⌜ addMeaning r ≡ newLength used (added (now (buffer .entry)) used (listOf numbers)) ⌝ }
     ensures bytes { λ r. ⌜ now (buffer .exit) ≡ writtenBehind used (added (now (buffer .entry)) used (listOf numbers)) (now (buffer .entry)) ⌝ }
 {
     let table = find_place(&*buffer, used);
     let answer = table.answer;
-    if let ContentsAnswer::Refused(refusal) = answer {
+    if let CheckAnswer::Refused(refusal) = answer {
         return AddAnswer::Refused(refusal);
     }
     let images = table.images;
-    match pack_under(images, table.count, numbers, &mut buffer[used..]) {
+    match pack_under(images, numbers, &mut buffer[used..]) {
         WriteAnswer::Refused(refusal) => AddAnswer::Refused(refusal),
         WriteAnswer::Written(size) => AddAnswer::Added(used + size),
     }
@@ -120,7 +117,7 @@ pub fn show(file: &[u8], index: usize) -> ShowAnswer
 {
     let table = read_file(file);
     let answer = table.answer;
-    if let ContentsAnswer::Refused(refusal) = answer {
+    if let CheckAnswer::Refused(refusal) = answer {
         return ShowAnswer::Refused(refusal);
     }
     if (file.len() - table.size) / table.body <= index {

@@ -1,7 +1,9 @@
 // Layer 3: print lines and record files (document 01: Print lines, Record file).
 mod fields;
 mod files;
+mod finding;
 mod listing;
+mod marks;
 mod printing;
 mod scanning;
 mod writing;
@@ -11,7 +13,6 @@ pub use fields::read_field;
 pub use files::AddAnswer;
 pub use files::NO_RECORD;
 pub use files::ShowAnswer;
-pub use files::TORN;
 pub use files::add;
 pub use files::show;
 pub use files::shown_body;
@@ -26,7 +27,6 @@ pub use printing::LINE_LENGTH;
 pub use printing::NO_FIELD;
 pub use printing::PrintAnswer;
 pub use printing::TEXT_OUTSIDE;
-pub use printing::TOO_LONG;
 pub use printing::forecast;
 pub use printing::print;
 pub use scanning::scan;

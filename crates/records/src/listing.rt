@@ -2,39 +2,28 @@
 ghost use mathlib.Core.Path.{_≡_};
 ghost use Prim.Native.Nat.{_+_, _*_, _<_, _≤_};
 ghost use lib.Dec.{ltb};
-ghost use lib.ListN.{length, take};
-ghost use Rattle.decimal.specs.Answer.{Answer};
-ghost use Rattle.codec.specs.Lists.{storedIn};
-ghost use Rattle.codec.specs.Contents.{maxColumns, contentsOf};
-ghost use Rattle.codec.specs.Body.{within, written, sized, writeMeaning};
+ghost use lib.ListN.{length, take, drop};
+ghost use Rattle.decimal.specs.Answer.{Answer, given};
+ghost use Rattle.codec.specs.Answers.{storedIn, within, written, sized, writeMeaning};
+ghost use Rattle.codec.specs.Lists.{maxColumns, imageList};
+ghost use Rattle.codec.specs.Contents.{contentsOf};
+ghost use Rattle.codec.specs.Unpacking.{unpackUnder, unpackedOf};
 ghost use Rattle.codec.specs.Alpha.{alphaTexts};
-ghost use Rattle.records.specs.Listing.{
-  countLine,
-  recordLine,
-  listed,
-  refusalLine,
-  reportOf,
-  checkedFile,
-  given,
-  linesOf,
-  Listed,
-  HasTexts,
-};
+ghost use Rattle.records.specs.Listing.{countLine, recordLine, listed, refusalLine, reportOf, checkedFile, linesOf, Listed, HasTexts};
 use crate::files::read_file;
 use crate::writing::decimal_length;
 use crate::writing::write_bytes;
 use crate::writing::write_decimal;
-use codec::COLUMNS;
-use codec::CUT_SHORT;
 use codec::Contents;
-use codec::ContentsAnswer;
+use codec::Images;
 use codec::NO_ROOM;
-use codec::UnpackAnswer;
+use codec::Numbers;
+use codec::Unpacked;
+use codec::WRONG_LENGTH;
 use codec::WriteAnswer;
 use codec::unpack_under;
 use codec::write_alpha_under;
-use decimal::Image;
-use decimal::Number;
+use decimal::CheckAnswer;
 use decimal::Refusal;
 
 // The most bytes of a file that the listing program takes.
@@ -56,46 +45,49 @@ fn no_room() -> WriteAnswer
     })
 }
 
+// The numbers of the body that stands at a place of a file, under the file's contents.
+fn read_body(file: &[u8], table: Contents, at: usize) -> Unpacked
+    requires { ⌜ at + table .body ≤ length (now file) ⌝ }
+    ensures { λ r. ⌜ r ≡ unpackedOf (unpackUnder (imageList (table .images)) (take (table .body) (drop at (now (file .entry))))) ⌝ }
+{
+    let images = table.images;
+    let end = at + table.body;
+    unpack_under(images, &file[at..end])
+}
+
 // The contents of a file whose bodies can all be read: refused as the file is, then with 7 and the column within the first bad record.
 fn check_file(file: &[u8]) -> Contents
     ensures { λ r. ⌜ r ≡ contentsOf (checkedFile (now (file .entry))) ⌝ }
 {
     let table = read_file(file);
     let answer = table.answer;
-    if let ContentsAnswer::Refused(_) = answer {
+    if let CheckAnswer::Refused(_) = answer {
         return table;
     }
-    let images = table.images;
     let mut at = table.size;
     while at < file.len() {
-        let end = at + table.body;
-        let record = unpack_under(images, table.count, &file[at..end]);
+        let record = read_body(file, table, at);
         let found = record.answer;
-        if let UnpackAnswer::Refused(refusal) = found {
+        if let CheckAnswer::Refused(refusal) = found {
             return Contents::refused(refusal.number, refusal.place);
         }
-        at = end;
+        at += table.body;
     }
     table
 }
 
 // Writes the line of a record, its alpha texts parted by one blank, from a place of the buffer on; gives the place behind it.
-fn write_record(
-    images: [Image; COLUMNS],
-    count: usize,
-    values: [Number; COLUMNS],
-    buffer: &mut [u8],
-    from: usize,
-) -> usize
-    requires { ⌜ (count ≤ maxColumns) × (HasTexts (take count images) (take count values)) × (from + length (recordLine (given (alphaTexts (take count images) (take count values)))) ≤ length (now buffer)) ⌝ }
-    ensures place { λ r. ⌜ r ≡ from + length (recordLine (given (alphaTexts (take count images) (take count values)))) ⌝ }
-    ensures bytes { λ r. ⌜ now (buffer .exit) ≡ written (now (buffer .entry)) from (recordLine (given (alphaTexts (take count images) (take count values)))) ⌝ }
+fn write_record(images: Images, numbers: Numbers, buffer: &mut [u8], from: usize) -> usize
+    requires { ⌜ (images .count ≤ maxColumns) × (HasTexts (take (images .count) (images .values)) (take (images .count) (numbers .values))) × (from + length (recordLine (given (alphaTexts (take (images .count) (images .values)) (take (images .count) (numbers .values))))) ≤ length (now buffer)) ⌝ }
+    ensures place { λ r. ⌜ r ≡ from + length (recordLine (given (alphaTexts (take (images .count) (images .values)) (take (images .count) (numbers .values))))) ⌝ }
+    ensures bytes { λ r. ⌜ now (buffer .exit) ≡ written (now (buffer .entry)) from (recordLine (given (alphaTexts (take (images .count) (images .values)) (take (images .count) (numbers .values))))) ⌝ }
 {
+    let count = images.count;
     let mut out = from;
     let mut column = 0;
     while column < count {
-        let image = images[column];
-        let number = values[column];
+        let image = images.values[column];
+        let number = numbers.values[column];
         if 0 < column {
             buffer[out] = b' ';
             out += 1;
@@ -119,12 +111,10 @@ fn write_records(file: &[u8], table: Contents, buffer: &mut [u8], from: usize) -
     let mut out = from;
     let mut at = table.size;
     while at < file.len() {
-        let end = at + table.body;
-        let record = unpack_under(images, table.count, &file[at..end]);
+        let record = read_body(file, table, at);
         let numbers = record.numbers;
-        let values = numbers.values;
-        out = write_record(images, table.count, values, &mut *buffer, out);
-        at = end;
+        out = write_record(images, numbers, &mut *buffer, out);
+        at += table.body;
     }
     out
 }
@@ -161,12 +151,14 @@ fn list_checked(file: &[u8], table: Contents, buffer: &mut [u8]) -> WriteAnswer
     ensures answer { λ r. ⌜ writeMeaning r ≡ sized (listed (now (file .entry)) (length (now (buffer .entry)))) ⌝ }
     ensures bytes { λ r. ⌜ now (buffer .exit) ≡ storedIn (listed (now (file .entry)) (length (now (buffer .entry)))) (now (buffer .entry)) ⌝ }
 {
+    let images = table.images;
+    let columns = images.count;
     let records = (file.len() - table.size) / table.body;
-    let others = 2 * COUNT_LINE + decimal_length(table.count) + decimal_length(records);
+    let others = 2 * COUNT_LINE + decimal_length(columns) + decimal_length(records);
     if is_longer(records, table.size - 1, others, buffer.len()) {
         return no_room();
     }
-    let start = write_count(b"columns ", table.count, &mut *buffer, 0);
+    let start = write_count(b"columns ", columns, &mut *buffer, 0);
     let end = write_records(file, table, &mut *buffer, start);
     WriteAnswer::Written(write_count(b"records ", records, buffer, end))
 }
@@ -179,7 +171,7 @@ pub fn list(file: &[u8], buffer: &mut [u8]) -> WriteAnswer
 {
     let table = check_file(file);
     let answer = table.answer;
-    if let ContentsAnswer::Refused(refusal) = answer {
+    if let CheckAnswer::Refused(refusal) = answer {
         return WriteAnswer::Refused(refusal);
     }
     list_checked(file, table, buffer)
@@ -212,11 +204,11 @@ pub fn report(input: &[u8], buffer: &mut [u8]) -> WriteAnswer
     ensures bytes { λ r. ⌜ now (buffer .exit) ≡ storedIn (within (length (now (buffer .entry))) (reportOf (now (input .entry)))) (now (buffer .entry)) ⌝ }
 {
     if FILE_LENGTH < input.len() {
-        return write_refusal(CUT_SHORT, 0, buffer);
+        return write_refusal(WRONG_LENGTH, 0, buffer);
     }
     let table = check_file(input);
     let answer = table.answer;
-    if let ContentsAnswer::Refused(refusal) = answer {
+    if let CheckAnswer::Refused(refusal) = answer {
         return write_refusal(refusal.number, refusal.place, buffer);
     }
     list_checked(input, table, buffer)

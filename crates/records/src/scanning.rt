@@ -1,42 +1,99 @@
 // Finding the fields of a line image (document 01: Print lines).
 ghost use mathlib.Core.Path.{_≡_};
 ghost use lib.ListN.{drop};
-ghost use Rattle.records.specs.Scanning.{isField, isStopped, fieldLength};
+ghost use Rattle.decimal.specs.Image.{stateOf};
+ghost use Rattle.records.specs.Scanning.{isField, isStopped, fieldLength, scannedField};
 use decimal::State;
+use decimal::fraction_hash;
+use decimal::integer_hash;
+use decimal::is_exponential;
 use decimal::next_state;
-
-// The count of 5E bytes in an exponential field.
-const UPS: u8 = 4;
 
 // Whether the bytes that led to a state are a field.
 fn is_field(state: State) -> bool
-    ensures { λ r. ⌜ r ≡ isField state ⌝ }
+    ensures { λ r. ⌜ r ≡ isField (stateOf state) ⌝ }
 {
     match state {
         State::Start => false,
         State::Signed => false,
-        State::Integer(_) => true,
+        State::Integer => true,
+        State::Grouped => true,
         State::Comma => false,
-        State::Point(_) => false,
-        State::Fraction(_) => true,
-        State::Up(count) => count == UPS,
+        State::Point => false,
+        State::GroupedPoint => false,
+        State::Fraction => true,
+        State::GroupedFraction => true,
+        State::FirstUp => false,
+        State::SecondUp => false,
+        State::ThirdUp => false,
+        State::Exponential => true,
         State::Stopped => false,
     }
 }
 
 // Whether no field begins as the bytes that led to a state.
 fn is_stopped(state: State) -> bool
-    ensures { λ r. ⌜ r ≡ isStopped state ⌝ }
+    ensures { λ r. ⌜ r ≡ isStopped (stateOf state) ⌝ }
 {
     match state {
         State::Start => false,
         State::Signed => false,
-        State::Integer(_) => false,
+        State::Integer => false,
+        State::Grouped => false,
         State::Comma => false,
-        State::Point(_) => false,
-        State::Fraction(_) => false,
-        State::Up(_) => false,
+        State::Point => false,
+        State::GroupedPoint => false,
+        State::Fraction => false,
+        State::GroupedFraction => false,
+        State::FirstUp => false,
+        State::SecondUp => false,
+        State::ThirdUp => false,
+        State::Exponential => false,
         State::Stopped => true,
+    }
+}
+
+// The field that starts at a place of a line: its length, the # signs before and behind the point, and whether it is exponential.
+pub(crate) struct Scanned {
+    pub length: usize,
+    pub integer: usize,
+    pub fraction: usize,
+    pub exponential: bool,
+}
+
+// The field that starts at a place of a line, all 0 where the byte there is literal or the place is past the end.
+pub(crate) fn scan_field(line: &[u8], at: usize) -> Scanned
+    ensures { λ r. ⌜ r ≡ scannedField (drop at (now (line .entry))) ⌝ }
+{
+    let mut longest: usize = 0;
+    let mut integer: usize = 0;
+    let mut fraction: usize = 0;
+    let mut exponential = false;
+    let mut state = State::Start;
+    let mut end = at;
+    while end < line.len() {
+        state = next_state(state, line[end]);
+        end += 1;
+        if is_stopped(state) {
+            return Scanned {
+                length: longest,
+                integer,
+                fraction,
+                exponential,
+            };
+        }
+        if is_field(state) {
+            longest = end - at;
+            integer += integer_hash(state);
+            fraction += fraction_hash(state);
+            exponential = is_exponential(state);
+        }
+    }
+    Scanned {
+        length: longest,
+        integer,
+        fraction,
+        exponential,
     }
 }
 
@@ -44,18 +101,6 @@ fn is_stopped(state: State) -> bool
 pub fn scan(line: &[u8], at: usize) -> usize
     ensures { λ r. ⌜ r ≡ fieldLength (drop at (now (line .entry))) ⌝ }
 {
-    let mut state = State::Start;
-    let mut longest: usize = 0;
-    let mut end = at;
-    while end < line.len() {
-        state = next_state(state, line[end]);
-        end += 1;
-        if is_stopped(state) {
-            return longest;
-        }
-        if is_field(state) {
-            longest = end - at;
-        }
-    }
-    longest
+    let scanned = scan_field(line, at);
+    scanned.length
 }

@@ -2,19 +2,15 @@
 ghost use mathlib.Core.Path.{_≡_};
 ghost use Prim.Native.Nat.{_+_, _≤_};
 ghost use lib.ListN.{length};
-ghost use Rattle.codec.specs.Body.{written};
+ghost use Rattle.codec.specs.Answers.{written};
 ghost use Rattle.records.specs.Writing.{decimalText};
 
 // Copies bytes into the buffer, from a place on.
-pub(crate) fn write_bytes(bytes: &[u8], buffer: &mut [u8], at: usize)
-    requires { ⌜ at + length (now bytes) ≤ length (now buffer) ⌝ }
-    ensures { λ r. ⌜ now (buffer .exit) ≡ written (now (buffer .entry)) at (now (bytes .entry)) ⌝ }
+pub(crate) fn write_bytes(source: &[u8], buffer: &mut [u8], at: usize)
+    requires { ⌜ at + length (now source) ≤ length (now buffer) ⌝ }
+    ensures { λ r. ⌜ now (buffer .exit) ≡ written (now (buffer .entry)) at (now (source .entry)) ⌝ }
 {
-    let mut j = 0;
-    while j < bytes.len() {
-        buffer[at + j] = bytes[j];
-        j += 1;
-    }
+    bytes::copy(source, &mut buffer[at..]);
 }
 
 // The count of digits of a whole number in decimal.

@@ -7,10 +7,9 @@ use crate::shown::print_number;
 use crate::shown::print_raw;
 use crate::shown::print_refusal;
 use crate::shown::print_signed;
-use codec::ContentsAnswer;
 use codec::Numbers;
-use codec::UnpackAnswer;
 use codec::WriteAnswer;
+use decimal::CheckAnswer;
 use decimal::Number;
 use decimal::NumberAnswer;
 
@@ -83,8 +82,8 @@ pub(crate) fn size_row(contents: &[u8]) {
     let table = codec::read_alone(contents);
     let answer = table.answer;
     match answer {
-        ContentsAnswer::Refused(refusal) => print_refusal(refusal),
-        ContentsAnswer::Read => {
+        CheckAnswer::Refused(refusal) => print_refusal(refusal),
+        CheckAnswer::Fine => {
             print_count(table.body);
             print_raw(b" bytes");
         }
@@ -101,8 +100,8 @@ pub(crate) fn body_row(contents: &[u8], body: &[u8]) {
     let unpacked = codec::unpack(contents, body);
     let answer = unpacked.answer;
     match answer {
-        UnpackAnswer::Refused(refusal) => print_refusal(refusal),
-        UnpackAnswer::Unpacks => {
+        CheckAnswer::Refused(refusal) => print_refusal(refusal),
+        CheckAnswer::Fine => {
             let numbers = unpacked.numbers;
             let values = numbers.values;
             print_number(values[0]);

@@ -6,10 +6,9 @@ use lib.ListN.{length}
 use lib.Seq.{length-take-le}
 use mathlib.Core.List.{List}
 use Rattle.decimal.specs.Answer.{Answer}
-use Rattle.codec.specs.declared.body.WriteAnswer.{WriteAnswer}
-use Rattle.codec.specs.declared.body.WriteAnswer.the-variants as gives
-use Rattle.codec.specs.Lists.{storedIn}
-use Rattle.codec.specs.Body.{writeMeaning, sized}
+use Rattle.codec.specs.declared.answers.WriteAnswer.{WriteAnswer}
+use Rattle.codec.specs.declared.answers.WriteAnswer.the-variants as gives
+use Rattle.codec.specs.Answers.{storedIn, writeMeaning, sized}
 use Rattle.codec.proofs.BufferLaws.{stored-size}
 use Rattle.listing.proofs.main.Statement.{statement}
 use Rattle.listing.proofs.main.Tie as tie

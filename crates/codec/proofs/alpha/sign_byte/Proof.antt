@@ -3,7 +3,7 @@ use Prim.Native.Nat.{_<_}
 use mathlib.Core.Path.{subst}
 use native.Mathlib.Omega.{arith}
 use Rattle.decimal.specs.declared.image.Sign.{Sign}
-use Rattle.codec.specs.Contents.{signCount}
+use Rattle.codec.specs.Columns.{signCount}
 use Rattle.codec.specs.Alpha.{signText}
 use Rattle.codec.proofs.AlphaLaws.{sign-minus}
 use borrow.Author.Needs.{needs}

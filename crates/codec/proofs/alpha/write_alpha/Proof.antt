@@ -6,8 +6,7 @@ use lib.ListN.{length}
 use borrow.Author.Needs.{needs}
 use Rattle.decimal.specs.Answer.{Answer, done}
 use Rattle.decimal.specs.Image.{imageMeaning, readImage}
-use Rattle.codec.specs.Lists.{storedIn}
-use Rattle.codec.specs.Body.{sized}
+use Rattle.codec.specs.Answers.{storedIn, sized}
 use Rattle.codec.specs.Alpha.{converting}
 use Rattle.codec.proofs.AlphaLaws.{refused-answers, alpha-image, converting-refused, converting-read}
 use Rattle.codec.proofs.alpha.write_alpha.Statement.{statement}

@@ -5,9 +5,8 @@ use native.Mathlib.Omega.{arith}
 use lib.ListN.{length}
 use borrow.Author.Needs.{needs}
 use Rattle.codec.specs.Alpha.{convertingUnder, alphaText, textLength}
-use Rattle.codec.specs.Body.{heldBy}
-use Rattle.codec.proofs.AlphaLaws.{refused-answers, done-answers, text-length, truncation-found, truncation-refused}
-use Rattle.codec.proofs.AlphaLaws.{under-refused, under-held, converting-under-refused, converting-under-long, converting-under-done}
+use Rattle.codec.specs.Packing.{heldBy}
+use Rattle.codec.proofs.AlphaLaws.{refused-answers, done-answers, text-length, truncation-found, truncation-refused, under-refused, under-held, converting-under-refused, converting-under-long, converting-under-done}
 use Rattle.codec.proofs.alpha.write_alpha_under.Statement.{statement}
 use Rattle.codec.proofs.alpha.write_alpha_under.Tie as tie
 

@@ -1,80 +1,158 @@
--- `write_text` meets its contract. The loop's invariant: the first j bytes of the text are written over the buffer's, and its length
--- is the same. The measure is what is left of the text. Assumes nothing.
-use Prim.Native.Nat.{_-_, _≤_}
-use mathlib.Core.Path.{_≡_, refl, _∙_}
+-- `write_text` meets its contract: the parts of the text are written one behind the other. Assumes nothing.
+use Prim.Native.Nat.{ℕ, _*_, _/_, _^_}
+use mathlib.Core.Path.{_≡_, ap, _∙_}
 use native.Mathlib.Omega.{arith}
-use lib.ListN.{length, length-set}
-use Rattle.codec.specs.Alpha.{alphaText}
-use Rattle.codec.specs.Body.{heldBy}
-use Rattle.codec.proofs.AlphaLaws.{text-length, writtenTo, written-starts, written-turns, written-ends}
+use borrow.Author.Needs.{needs}
+use Rattle.decimal.specs.Digits.{precision, halvesIn}
+use Rattle.decimal.proofs.PackedLaws.{shifted-halves}
+use Rattle.codec.specs.Answers.{written}
+use Rattle.codec.specs.Packing.{heldBy}
+use Rattle.codec.specs.Alpha.{textLength, tailLength, exponentLength}
+use Rattle.codec.proofs.AlphaLaws.{frontText, fixedText, integer-step, fraction-step, fixed-end, exponent-end}
+use Rattle.codec.proofs.ContentsLaws.{sign-few}
 use Rattle.codec.proofs.alpha.write_text.Statement.{statement}
 use Rattle.codec.proofs.alpha.write_text.Tie as tie
 
-abbrev Inv-loop : tie.InvT-loop
-Inv-loop image truncation buffer₀ size j₀ buffer j =
-    (j ≤ size) × (length buffer ≡ length buffer₀) × (buffer ≡ writtenTo (alphaText image (heldBy truncation)) buffer₀ j)
+-- the places before the calls
+abbrev entry : tie.After-write-sign → tie.Start
+entry w = w .before .before .before .before .before
 
-abbrev μ-loop : tie.MeasureT-loop
-μ-loop image truncation buffer₀ size j₀ buffer j = size - j
+abbrev signs : tie.After-write-digits → tie.After-write-sign
+signs w = w .before .before .before .before
 
-text-length-requires : tie.Need-text-length-requires Inv-loop μ-loop
-text-length-requires c κs = c .before .pre .0 .size
+abbrev integers : tie.After-write-fraction → tie.After-write-digits
+integers w = w .before .before .before .before
 
-loop-holds : tie.Need-loop-holds Inv-loop μ-loop
-loop-holds c =
-    let a = c .before .before .args in
-    (omega arith, refl, written-starts (alphaText (a .image) (heldBy (a .truncation))) (a .buffer .now))
+-- the digits before the point stand behind the sign
+front :
+    (w : tie.After-write-digits)
+    → w .write-digits .last .1 .1 .0
+    ≡ written (entry (signs w) .args .buffer .now) 0 (frontText (entry (signs w) .args .image) (heldBy (entry (signs w) .args .truncation)))
+front w =
+    let g = signs w in
+    let s = entry g in
+    let a = s .args in
+    let t = heldBy (a .truncation) in
+    let digits =
+    ap (λ (h : ℕ). halvesIn (a .image .integer) (h / 2 ^ (4 * a .image .fraction))) (s .pre .0 .digits)
+    ∙ shifted-halves precision (a .image .integer) (a .image .fraction) (t .whole) (s .pre .0 .size) in
+    w .write-digits .ensures
+    ∙ integer-step (a .image) t (a .buffer .now) (s .pre .1) (g .write-sign .ensures .1) (g .write-sign .ensures .0) digits
 
-text-byte-requires : tie.Need-text-byte-requires Inv-loop μ-loop
-text-byte-requires c κs = (c .before .before .before .before .pre .0, omega (arith, c .before .before .text-length .ensures))
+-- the fraction stands behind them
+fixed :
+    (w : tie.After-write-fraction)
+    → w .write-fraction .last .1 .1 .0
+    ≡ written (entry (signs (integers w)) .args .buffer .now) 0
+    (fixedText (entry (signs (integers w)) .args .image) (heldBy (entry (signs (integers w)) .args .truncation)))
+fixed w =
+    let g = signs (integers w) in
+    let s = entry g in
+    let a = s .args in
+    w .write-fraction .ensures .1
+    ∙ fraction-step (a .image) (heldBy (a .truncation)) (a .buffer .now) (s .pre .1) (front (integers w)) (omega (arith, g .write-sign .ensures .0))
 
-slice-write-buffer : tie.Need-slice-write-buffer Inv-loop μ-loop
-slice-write-buffer c =
-    let s = c .before .before .before .before .before in
-    omega (arith, c .before .before .before .text-length .ensures, s .pre .1)
+cast-integer : tie.Need-cast-integer
+cast-integer c = search needs
 
-add-j : tie.Need-add-j Inv-loop μ-loop
-add-j c = omega arith
+cast-fraction : tie.Need-cast-fraction
+cast-fraction c = search needs
 
-loop-less : tie.Need-loop-less Inv-loop μ-loop
-loop-less c = omega arith
+write-sign-requires : tie.Need-write-sign-requires
+unfolding textLength
+write-sign-requires c κs = omega arith
 
-loop-again : tie.Need-loop-again Inv-loop μ-loop
-loop-again c =
-    let l = c .before .before .loop in
-    let s = c .before .before .before .before .before in
-    let t = heldBy (s .args .truncation) in
-    let size = text-length (s .args .image) t in
-    let found = c .before .before .before .text-length .ensures in (
-      omega arith,
-      length-set (l .buffer) (l .j) (c .text-byte .result) ∙ l .inv .1,
-      written-turns (alphaText (s .args .image) t) (s .args .buffer .now) (l .buffer) (l .j) (c .text-byte .result) (l .inv .2) (omega arith)
-          (omega (arith, s .pre .1)) (c .text-byte .ensures),
+mul-write-digits : tie.Need-mul-write-digits
+mul-write-digits c = search needs
+
+shr-write-digits : tie.Need-shr-write-digits
+shr-write-digits c = search needs
+
+write-digits-requires : tie.Need-write-digits-requires
+unfolding textLength
+write-digits-requires c κs =
+    let g = c .before .before .before in
+    let s = entry g in
+    (omega (arith, s .pre .0 .size), omega (arith, s .pre .1, g .write-sign .ensures .0, g .write-sign .kept .1 .1 .0))
+
+add-write-fraction : tie.Need-add-write-fraction
+add-write-fraction c =
+    let g = signs (c .before .before .before) in
+    let s = entry g in
+    omega (arith, g .write-sign .ensures .0, sign-few (s .args .image .sign), s .pre .0 .size)
+
+write-fraction-requires : tie.Need-write-fraction-requires
+unfolding textLength tailLength
+write-fraction-requires c κs =
+    let w = c .before .before .before in
+    let g = signs w in
+    let s = entry g in (
+      omega (arith, s .pre .0 .size),
+      omega (arith, s .pre .1, g .write-sign .ensures .0, g .write-sign .kept .1 .1 .0, w .write-digits .kept .1 .1 .0),
+      s .pre .0 .digits,
     )
 
-same-length : tie.Need-same-length Inv-loop μ-loop
-same-length c = c .before .loop .inv .1
+write-exponent-requires : tie.Need-write-exponent-requires
+unfolding textLength tailLength exponentLength
+write-exponent-requires c κs =
+    let e = c .before in
+    let f = e .before .before .before in
+    let w = integers f in
+    let g = signs w in
+    let s = entry g in
+    let four = ap exponentLength (e .if1 .taken) in (
+      s .pre .0 .range,
+      omega (
+        arith,
+        s .pre .1,
+        four,
+        f .write-fraction .ensures .0,
+        g .write-sign .ensures .0,
+        g .write-sign .kept .1 .1 .0,
+        w .write-digits .kept .1 .1 .0,
+        f .write-fraction .kept .1 .1 .0,
+      ),
+    )
 
-returns : tie.Need-returns Inv-loop μ-loop
+same-length : tie.Need-same-length
+same-length c = search needs
+
+returns : tie.Need-returns
 returns c =
-    let l = c .before .loop in
-    let a = c .before .before .before .before .args in
-    let t = heldBy (a .truncation) in
-    written-ends (alphaText (a .image) t) (a .buffer .now) (l .buffer) (l .j) (l .inv .2)
-    (omega (arith, text-length (a .image) t, c .before .before .text-length .ensures))
+    let x = c .before .before in
+    let e = x .before .before in
+    let f = e .before .before .before in
+    let g = signs (integers f) in
+    let s = entry g in
+    let a = s .args in
+    x .write-exponent .ensures
+    ∙ exponent-end (a .image) (heldBy (a .truncation)) (a .buffer .now) (s .pre .1) (e .if1 .taken) (fixed f)
+    (omega (arith, f .write-fraction .ensures .0, g .write-sign .ensures .0))
+
+same-length-2 : tie.Need-same-length-2
+same-length-2 c = search needs
+
+returns-2 : tie.Need-returns-2
+returns-2 c =
+    let f = c .before .before .before in
+    let s = entry (signs (integers f)) in
+    let a = s .args in
+    fixed-end (a .image) (heldBy (a .truncation)) (a .buffer .now) (s .pre .1) (c .if1 .left) (fixed f)
 
 pub write-text-spec : {M : Type 1} → statement M
 write-text-spec =
     tie.close
     (tie.spec
-    Inv-loop
-    μ-loop
-    text-length-requires
-    loop-holds
-    text-byte-requires
-    slice-write-buffer
-    add-j
-    loop-less
-    loop-again
+    cast-integer
+    cast-fraction
+    write-sign-requires
+    mul-write-digits
+    shr-write-digits
+    write-digits-requires
+    add-write-fraction
+    write-fraction-requires
+    write-exponent-requires
     same-length
-    returns)
+    returns
+    same-length-2
+    returns-2)

@@ -1,33 +1,22 @@
 -- `read_text` meets its contract: each place that the code has come to is the one where the next part of the text begins, and the
 -- parts make the whole. Assumes nothing.
-use Prim.Native.Nat.{ℕ, _+_, _-_, _^_, _<_}
+use Prim.Native.Nat.{ℕ, _+_, _^_, _<_}
 use mathlib.Core.List.{List}
 use mathlib.Core.Path.{ap, _∙_}
 use native.Mathlib.Omega.{arith}
 use borrow.Author.Needs.{needs}
 use lib.ListN.{length}
-use Rattle.decimal.specs.Digits.{precision}
-use Rattle.codec.specs.Text.{blanksIn, RunFound, FractionFound, PowerFound}
+use Rattle.codec.specs.Text.{blanksIn, NumeralFound}
 use Rattle.codec.proofs.TextLaws.{
-  numeralIn,
-  integerIn,
-  pointedIn,
-  poweredIn,
+  unsignedIn,
   endIn,
   Place,
   place-signed,
   sign-found,
-  place-numeral,
-  integer-found,
-  place-pointed,
-  fraction-found,
-  place-powered,
-  power-found,
+  place-unsigned,
+  numeral-there,
   place-end,
   place-behind,
-  run-few,
-  run-held,
-  fraction-most,
   read-none,
   read-some,
 }
@@ -46,47 +35,21 @@ text-fits s = omega arith
 abbrev startOf : tie.After-sign-length → ℕ
 startOf s = s .before .before .blanks .result + s .sign-length .result
 
--- the number begins there
-start-is : (s : tie.After-sign-length) → Place (textOf s) (numeralIn (textOf s)) (startOf s)
+-- the numeral begins there
+start-is : (s : tie.After-sign-length) → Place (textOf s) (unsignedIn (textOf s)) (startOf s)
 start-is s =
     let p = place-signed (s .before .before .blanks .ensures) in
-    place-numeral p (sign-found p (s .before .sign-at .ensures)) (s .sign-length .ensures)
+    place-unsigned p (sign-found p (s .before .sign-at .ensures)) (s .sign-length .ensures)
 
--- the place behind the digits before the point
-abbrev pointedOf : tie.After-digit-run → ℕ
-pointedOf d = startOf (d .before) + d .digit-run .result .count
+-- the numeral
+numeral-is : (n : tie.After-numeral-at) → NumeralFound (unsignedIn (textOf (n .before))) (n .numeral-at .result)
+numeral-is n = numeral-there (start-is (n .before)) (n .numeral-at .ensures)
 
--- the digits before the point
-integer-is :
-    (d : tie.After-digit-run)
-    → RunFound (numeralIn (textOf (d .before))) precision 0 (d .digit-run .result .value) (d .digit-run .result .count)
-integer-is d = integer-found (start-is (d .before)) (d .digit-run .ensures)
-
--- the fraction begins there
-pointed-is : (d : tie.After-digit-run) → Place (textOf (d .before)) (pointedIn (textOf (d .before))) (pointedOf d)
-pointed-is d = place-pointed (start-is (d .before)) (integer-is d)
-
--- the place behind the fraction
-abbrev poweredOf : tie.After-fraction-at → ℕ
-poweredOf f = pointedOf (f .before .before .before) + f .fraction-at .result .used
-
--- the fraction
-fraction-is :
-    (f : tie.After-fraction-at)
-    → FractionFound (pointedIn (textOf (f .before .before .before .before))) (precision - length (integerIn (textOf (f .before .before .before .before))))
-    (f .before .before .before .digit-run .result .value)
-    (f .fraction-at .result .value)
-    (f .fraction-at .result .count)
-    (f .fraction-at .result .used)
-fraction-is f =
-    let d = f .before .before .before in
-    fraction-found (pointed-is d) (integer-is d) (f .fraction-at .ensures)
-
--- the exponent begins there
-powered-is :
-    (f : tie.After-fraction-at)
-    → Place (textOf (f .before .before .before .before)) (poweredIn (textOf (f .before .before .before .before))) (poweredOf f)
-powered-is f = place-powered (pointed-is (f .before .before .before)) (fraction-is f)
+-- the blanks at the end begin behind it
+end-is :
+    (n : tie.After-numeral-at)
+    → Place (textOf (n .before)) (endIn (textOf (n .before))) (startOf (n .before) + n .numeral-at .result .used)
+end-is n = place-end (start-is (n .before)) (numeral-is n)
 
 blanks-requires : tie.Need-blanks-requires
 blanks-requires c κs = search needs
@@ -100,73 +63,35 @@ sign-length-requires c κs = search needs
 add-start : tie.Need-add-start
 add-start c = omega (arith, start-is c .inside)
 
-digit-run-requires : tie.Need-digit-run-requires
-digit-run-requires c κs = (start-is c .inside, omega arith)
-
-add-pointed : tie.Need-add-pointed
-add-pointed c = omega (arith, pointed-is (c .before) .inside)
-
-sub-fraction-at : tie.Need-sub-fraction-at
-sub-fraction-at c = run-few (c .before .before .digit-run .ensures) .0
-
-fraction-at-requires : tie.Need-fraction-at-requires
-fraction-at-requires c κs = (pointed-is (c .before .before) .inside, run-held (c .before .before .digit-run .ensures))
-
-add-if1 : tie.Need-add-if1
-add-if1 c =
-    let f = c .before .before in
-    omega (arith, run-few (f .before .before .before .digit-run .ensures), fraction-most (f .fraction-at .ensures))
+numeral-at-requires : tie.Need-numeral-at-requires
+numeral-at-requires c κs = start-is c .inside
 
 returns : tie.Need-returns
-returns c =
-    let f = c .before .before .before in
-    read-none (textOf (f .before .before .before .before)) (integer-is (f .before .before .before)) (fraction-is f) (omega arith)
+returns c = let n = c .before .before in read-none (textOf (n .before)) (numeral-is n) (c .if1 .taken)
 
-add-powered : tie.Need-add-powered
-add-powered c = omega (arith, powered-is (c .before .before .before .before) .inside)
-
-power-at-requires : tie.Need-power-at-requires
-power-at-requires c κs = powered-is (c .before .before .before .before) .inside
-
--- the place behind the exponent
-abbrev endOf : tie.After-power-at → ℕ
-endOf p = poweredOf (p .before .before .before .before .before) + p .power-at .result .used
-
--- the text, from behind the exponent
-abbrev textBefore : tie.After-power-at → List ℕ
-textBefore p = textOf (p .before .before .before .before .before .before .before .before .before)
-
--- its length fits
-fits-before : (p : tie.After-power-at) → length (textBefore p) < 2 ^ 64
-fits-before p = text-fits (p .before .before .before .before .before .before .before .before .before)
-
--- the exponent
-power-is : (p : tie.After-power-at) → PowerFound (poweredIn (textBefore p)) (p .power-at .result .up) (p .power-at .result .used)
-power-is p = power-found (powered-is (p .before .before .before .before .before)) (p .power-at .ensures)
-
--- the blanks at the end begin there
-end-is : (p : tie.After-power-at) → Place (textBefore p) (endIn (textBefore p)) (endOf p)
-end-is p = place-end (powered-is (p .before .before .before .before .before)) (power-is p)
+-- the numeral, from behind the test
+abbrev behindTest : tie.After-struct-known2 → tie.After-numeral-at
+behindTest c = c .before .before .before
 
 add-end : tie.Need-add-end
-add-end c = omega (arith, end-is (c .before) .inside, fits-before (c .before))
+add-end c = omega (arith, end-is (behindTest c) .inside, text-fits (behindTest c .before))
 
 blanks-requires-2 : tie.Need-blanks-requires-2
-blanks-requires-2 c κs = end-is (c .before) .inside
+blanks-requires-2 c κs = end-is (behindTest c) .inside
 
 add-used : tie.Need-add-used
 add-used c =
-    let p = c .before .before in
-    omega (arith, place-behind (end-is p) (c .blanks2 .ensures), fits-before p)
+    let n = behindTest (c .before) in
+    omega (arith, place-behind (end-is n) (c .blanks2 .ensures), text-fits (n .before))
 
 cast-up : tie.Need-cast-up
-cast-up c = omega (arith, c .before .before .before .power-at .ensures .small)
+cast-up c = search needs
 
 add-down : tie.Need-add-down
-add-down c = omega (arith, fraction-most (c .before .before .before .before .before .before .before .before .before .fraction-at .ensures))
+add-down c = search needs
 
 cast-down : tie.Need-cast-down
-cast-down c = omega (arith, fraction-most (c .before .before .before .before .before .before .before .before .before .fraction-at .ensures))
+cast-down c = search needs
 
 is-minus-requires : tie.Need-is-minus-requires
 is-minus-requires c κs = search needs
@@ -178,15 +103,13 @@ returns-2 : tie.Need-returns-2
 returns-2 c =
     let m = c .before in
     let b = m .before .before .before in
-    let p = b .before .before in
-    let f = p .before .before .before .before .before in
-    let d = f .before .before .before in
-    let s = d .before in
+    let e = b .before .before in
+    let n = e .before .before in
+    let s = n .before in
     let first = place-signed (s .before .before .blanks .ensures) in
-    read-some (textOf s) (integer-is d) (fraction-is f) (p .before .before .if1 .left) (s .before .before .blanks .ensures) (sign-found first (s .before .sign-at .ensures))
+    read-some (textOf s) (numeral-is n) (e .if1 .left) (s .before .before .blanks .ensures) (sign-found first (s .before .sign-at .ensures))
     (s .sign-length .ensures)
-    (power-is p)
-    (b .blanks2 .ensures ∙ ap blanksIn (end-is p .ahead))
+    (b .blanks2 .ensures ∙ ap blanksIn (end-is n .ahead))
     (m .is-minus .ensures)
     (c .from-scaled .ensures)
 
@@ -198,14 +121,8 @@ read-text-spec =
     sign-at-requires
     sign-length-requires
     add-start
-    digit-run-requires
-    add-pointed
-    sub-fraction-at
-    fraction-at-requires
-    add-if1
+    numeral-at-requires
     returns
-    add-powered
-    power-at-requires
     add-end
     blanks-requires-2
     add-used

@@ -5,7 +5,8 @@ use mathlib.Core.List.{List, [], _∷_}
 use native.Mathlib.Omega.{arith}
 use lib.ListN.{length, getD}
 use borrow.Author.Needs.{needs}
-use Rattle.codec.specs.Unpacking.{halvesOf, firstHalf}
+use Rattle.codec.specs.Halves.{halvesOf}
+use Rattle.codec.specs.Unpacking.{firstHalf}
 use Rattle.codec.proofs.unpacking.column_sign.Statement.{statement}
 use Rattle.codec.proofs.unpacking.column_sign.Tie as tie
 

@@ -51,11 +51,14 @@ cast-up c =
     let a = c .before .before .before .args in
     omega (arith, small (belowBit (a .sign)) (a .size) (omega arith), c .signed-exponent .ensures)
 
+cast-down : tie.Need-cast-down
+cast-down c = search needs
+
 add-down : tie.Need-add-down
 add-down c = search needs
 
-cast-down : tie.Need-cast-down
-cast-down c = search needs
+cast-down-2 : tie.Need-cast-down-2
+cast-down-2 c = search needs
 
 from-scaled-requires : tie.Need-from-scaled-requires
 from-scaled-requires c κs = search needs
@@ -102,8 +105,9 @@ parts-number-spec =
     returns
     signed-exponent-requires
     cast-up
-    add-down
     cast-down
+    add-down
+    cast-down-2
     from-scaled-requires
     enum-known-number
     enum-told

@@ -4,7 +4,8 @@ use mathlib.Core.Path.{_≡_, ap, sym, _∙_}
 use native.Mathlib.Omega.{arith}
 use lib.ListN.{drop}
 use borrow.Author.Needs.{needs}
-use Rattle.codec.specs.Unpacking.{halvesOf, readOn}
+use Rattle.codec.specs.Halves.{halvesOf}
+use Rattle.codec.specs.Unpacking.{readOn}
 use Rattle.codec.proofs.UnpackLaws.{first-bad, first-read}
 use Rattle.codec.proofs.unpacking.read_run.Statement.{statement}
 use Rattle.codec.proofs.unpacking.read_run.Tie as tie

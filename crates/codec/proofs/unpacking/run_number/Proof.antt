@@ -2,7 +2,7 @@
 use Prim.Native.Nat.{ℕ, _%_}
 use mathlib.Core.Path.{_≡_, ap, sym, _∙_}
 use borrow.Author.Needs.{needs}
-use Rattle.codec.specs.Contents.{padCount}
+use Rattle.codec.specs.Columns.{padCount}
 use Rattle.codec.proofs.UnpackLaws.{run-even, run-zero, run-other}
 use Rattle.codec.proofs.unpacking.run_number.Statement.{statement}
 use Rattle.codec.proofs.unpacking.run_number.Tie as tie

@@ -3,8 +3,8 @@ use mathlib.Core.Path.{ap, sym, _∙_}
 use native.Mathlib.Omega.{arith}
 use borrow.Author.Needs.{needs}
 use Rattle.codec.specs.Unpacking.{runMeaning}
-use Rattle.codec.proofs.ContentsLaws.{column-some, column-few}
-use Rattle.codec.proofs.UnpackLaws.{few-signs, column-run, column-small, column-bad}
+use Rattle.codec.proofs.ContentsLaws.{column-some, column-few, sign-few}
+use Rattle.codec.proofs.UnpackLaws.{column-run, column-small, column-bad}
 use Rattle.codec.proofs.unpacking.unpack_column.Statement.{statement}
 use Rattle.codec.proofs.unpacking.unpack_column.Tie as tie
 
@@ -16,8 +16,8 @@ read-run-requires c κs =
     let s = c .before .before in
     let some = column-some (s .pre .0) in
     let few = column-few (s .pre .0) in
-    let signs = few-signs (s .args .image .sign) in
-    (omega arith, omega arith, omega arith)
+    let signs = sign-few (s .args .image .sign) in
+    (omega arith, omega arith, omega arith, s .pre .2)
 
 enum-told : tie.Need-enum-told
 enum-told c = search needs

@@ -1,18 +1,16 @@
 -- `read_at` meets its contract: from the end on there is no text number, else the text reader finds it. Assumes nothing.
-use mathlib.Core.Path.{ap, sym, subst, _∙_}
-use mathlib.Core.List.{List}
+use mathlib.Core.Path.{ap, sym, _∙_}
 use Prim.Native.Nat.{ℕ}
 use borrow.Author.Needs.{needs}
 use lib.ListN.{take, drop, length-drop}
 use lib.Seq.{take-length}
-use Rattle.codec.specs.Text.{TextFound}
-use Rattle.decimal.specs.Number.{numberMeaning}
-use Rattle.codec.proofs.WalkLaws.{next-end, next-found}
+use Rattle.codec.specs.Text.{readingIn}
+use Rattle.codec.proofs.WalkLaws.{reading-end}
 use Rattle.codec.proofs.walking.read_at.Statement.{statement}
 use Rattle.codec.proofs.walking.read_at.Tie as tie
 
 returns : tie.Need-returns
-returns c = let a = c .before .before .args in next-end (a .text .now) (a .place) (c .if1 .taken)
+returns c = let a = c .before .before .args in reading-end (a .text .now) (a .place) (c .if1 .taken)
 
 sub-read-text : tie.Need-sub-read-text
 sub-read-text c = search needs
@@ -31,8 +29,7 @@ returns-2 c =
     let a = c .before .before .before .before .args in
     let rest = drop (a .place) (a .text .now) in
     let all = ap (λ (n : ℕ). take n rest) (sym (length-drop (a .place) (a .text .now))) ∙ take-length rest in
-    let r = c .read-text in
-    next-found (subst (λ (bytes : List ℕ). TextFound bytes (r .result .used) (numberMeaning (r .result .number))) all (r .ensures))
+    c .read-text .ensures ∙ ap readingIn all
 
 pub read-at-spec : {M : Type 1} → statement M
 read-at-spec =

@@ -1,7 +1,9 @@
--- `image::after_up` meets its contract. The arm of a counted 5E goes by the test on the count.
+-- `image::after_up` meets its contract. Where a 5E follows another, the arm's equation on the state says the count.
 -- Assumes nothing.
+use mathlib.Core.Path.{ap, sym}
 use borrow.Author.Needs.{needs}
-use Rattle.decimal.proofs.ImageLaws.{up-below, up-full}
+use Rattle.decimal.specs.declared.image.State.{State}
+use Rattle.decimal.specs.Image.{stateOf, afterUp}
 use Rattle.decimal.proofs.image.after_up.Statement.{statement}
 use Rattle.decimal.proofs.image.after_up.Tie as tie
 
@@ -11,32 +13,41 @@ enum-told c = search needs
 enum-told-2 : tie.Need-enum-told-2
 enum-told-2 c = search needs
 
-enum-known-state : tie.Need-enum-known-state
-enum-known-state c = search needs
-
-first-up-requires : tie.Need-first-up-requires
-first-up-requires c κs = search needs
-
 enum-told-3 : tie.Need-enum-told-3
 enum-told-3 c = search needs
 
 enum-told-4 : tie.Need-enum-told-4
 enum-told-4 c = search needs
 
-enum-known-state-2 : tie.Need-enum-known-state-2
-enum-known-state-2 c = search needs
-
-first-up-requires-2 : tie.Need-first-up-requires-2
-first-up-requires-2 c κs = search needs
-
-enum-known-state-3 : tie.Need-enum-known-state-3
-enum-known-state-3 c = search needs
-
-add-t8 : tie.Need-add-t8
-add-t8 c = search needs
-
 enum-told-5 : tie.Need-enum-told-5
 enum-told-5 c = search needs
+
+enum-told-6 : tie.Need-enum-told-6
+enum-told-6 c = search needs
+
+enum-told-7 : tie.Need-enum-told-7
+enum-told-7 c = search needs
+
+enum-told-8 : tie.Need-enum-told-8
+enum-told-8 c = search needs
+
+enum-told-9 : tie.Need-enum-told-9
+enum-told-9 c = search needs
+
+enum-told-10 : tie.Need-enum-told-10
+enum-told-10 c = search needs
+
+enum-told-11 : tie.Need-enum-told-11
+enum-told-11 c = search needs
+
+enum-told-12 : tie.Need-enum-told-12
+enum-told-12 c = search needs
+
+enum-told-13 : tie.Need-enum-told-13
+enum-told-13 c = search needs
+
+enum-told-14 : tie.Need-enum-told-14
+enum-told-14 c = search needs
 
 returns : tie.Need-returns
 returns c = search needs
@@ -57,13 +68,28 @@ returns-6 : tie.Need-returns-6
 returns-6 c = search needs
 
 returns-7 : tie.Need-returns-7
-returns-7 c = up-below (c .before .before .state3 .given .1) (c .if1 .taken)
+returns-7 c = search needs
 
 returns-8 : tie.Need-returns-8
-returns-8 c = up-full (c .before .before .state3 .given .1) (c .if1 .left)
+returns-8 c = search needs
 
 returns-9 : tie.Need-returns-9
 returns-9 c = search needs
+
+returns-10 : tie.Need-returns-10
+returns-10 c = sym (ap (λ (s : State). afterUp (stateOf s)) (c .enum-told10 .given .1))
+
+returns-11 : tie.Need-returns-11
+returns-11 c = sym (ap (λ (s : State). afterUp (stateOf s)) (c .enum-told11 .given .1))
+
+returns-12 : tie.Need-returns-12
+returns-12 c = sym (ap (λ (s : State). afterUp (stateOf s)) (c .enum-told12 .given .1))
+
+returns-13 : tie.Need-returns-13
+returns-13 c = search needs
+
+returns-14 : tie.Need-returns-14
+returns-14 c = search needs
 
 pub after-up-spec : {M : Type 1} → statement M
 after-up-spec =
@@ -71,15 +97,18 @@ after-up-spec =
     (tie.spec
     enum-told
     enum-told-2
-    enum-known-state
-    first-up-requires
     enum-told-3
     enum-told-4
-    enum-known-state-2
-    first-up-requires-2
-    enum-known-state-3
-    add-t8
     enum-told-5
+    enum-told-6
+    enum-told-7
+    enum-told-8
+    enum-told-9
+    enum-told-10
+    enum-told-11
+    enum-told-12
+    enum-told-13
+    enum-told-14
     returns
     returns-2
     returns-3
@@ -88,4 +117,9 @@ after-up-spec =
     returns-6
     returns-7
     returns-8
-    returns-9)
+    returns-9
+    returns-10
+    returns-11
+    returns-12
+    returns-13
+    returns-14)

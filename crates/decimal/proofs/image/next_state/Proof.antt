@@ -4,7 +4,7 @@ use mathlib.Core.Path.{ap, sym, _∙_}
 use mathlib.Core.Logic.{inl, inr, ⊎-elim}
 use borrow.Author.Tests.{ne-eqb}
 use borrow.Author.Needs.{needs}
-use Rattle.decimal.specs.Image.{nextState}
+use Rattle.decimal.specs.Image.{stateOf, nextState}
 use Rattle.decimal.proofs.ImageTails.{other}
 use Rattle.decimal.proofs.image.next_state.Statement.{statement}
 use Rattle.decimal.proofs.image.next_state.Tie as tie
@@ -27,24 +27,24 @@ after-up-requires c κs = search needs
 returns : tie.Need-returns
 unfolding nextState
 returns c =
-    let s = c .before .before .args .state in
+    let s = stateOf (c .before .before .args .state) in
     c .after-sign .ensures ∙ ⊎-elim (λ e. ap (nextState s) (sym e)) (λ e. ap (nextState s) (sym e)) (c .before .match .keys1)
 
 returns-2 : tie.Need-returns-2
 unfolding nextState
-returns-2 c = c .after-hash .ensures ∙ ap (nextState (c .before .before .args .state)) (sym (c .before .match .keys2))
+returns-2 c = c .after-hash .ensures ∙ ap (nextState (stateOf (c .before .before .args .state))) (sym (c .before .match .keys2))
 
 returns-3 : tie.Need-returns-3
 unfolding nextState
-returns-3 c = c .after-point .ensures ∙ ap (nextState (c .before .before .args .state)) (sym (c .before .match .keys3))
+returns-3 c = c .after-point .ensures ∙ ap (nextState (stateOf (c .before .before .args .state))) (sym (c .before .match .keys3))
 
 returns-4 : tie.Need-returns-4
 unfolding nextState
-returns-4 c = c .after-comma .ensures ∙ ap (nextState (c .before .before .args .state)) (sym (c .before .match .keys4))
+returns-4 c = c .after-comma .ensures ∙ ap (nextState (stateOf (c .before .before .args .state))) (sym (c .before .match .keys4))
 
 returns-5 : tie.Need-returns-5
 unfolding nextState
-returns-5 c = c .after-up .ensures ∙ ap (nextState (c .before .before .args .state)) (sym (c .before .match .keys5))
+returns-5 c = c .after-up .ensures ∙ ap (nextState (stateOf (c .before .before .args .state))) (sym (c .before .match .keys5))
 
 returns-6 : tie.Need-returns-6
 returns-6 c =
@@ -58,7 +58,7 @@ returns-6 c =
     (ne-eqb _ _ (r .0 .0 .1))
     (ne-eqb _ _ (r .0 .1))
     (ne-eqb _ _ (r .1))
-    (c .before .args .state))
+    (stateOf (c .before .args .state)))
 
 pub next-state-spec : {M : Type 1} → statement M
 next-state-spec =

@@ -4,12 +4,13 @@ use Prim.Native.Nat.{_-_}
 use mathlib.Core.Path.{refl}
 use native.Mathlib.Omega.{arith}
 use lib.ListN.{length}
-use Rattle.decimal.proofs.ImageLaws.{Reading, reading-starts, reading-turns, reading-ends, hash-once, scans}
+use Rattle.decimal.specs.Image.{stateOf}
+use Rattle.decimal.proofs.ImageLaws.{Reading, reading-starts, reading-turns, reading-ends, hash-once}
 use Rattle.decimal.proofs.image.scan_bytes.Statement.{statement}
 use Rattle.decimal.proofs.image.scan_bytes.Tie as tie
 
 abbrev Inv-loop : tie.InvT-loop
-Inv-loop bytes state₀ integer₀ fraction₀ at₀ state integer fraction at = Reading bytes state integer fraction at
+Inv-loop bytes state₀ integer₀ fraction₀ at₀ state integer fraction at = Reading bytes (stateOf state) integer fraction at
 
 abbrev μ-loop : tie.MeasureT-loop
 μ-loop bytes state₀ integer₀ fraction₀ at₀ state integer fraction at = length bytes - at
@@ -27,13 +28,13 @@ integer-hash-requires : tie.Need-integer-hash-requires Inv-loop μ-loop
 integer-hash-requires c κs = tt
 
 add-integer : tie.Need-add-integer Inv-loop μ-loop
-add-integer c = omega (arith, hash-once (c .before .next-state .result) (c .integer-hash .ensures) refl)
+add-integer c = omega (arith, hash-once (stateOf (c .before .next-state .result)) (c .integer-hash .ensures) refl)
 
 fraction-hash-requires : tie.Need-fraction-hash-requires Inv-loop μ-loop
 fraction-hash-requires c κs = tt
 
 add-fraction : tie.Need-add-fraction Inv-loop μ-loop
-add-fraction c = omega (arith, hash-once (c .before .before .next-state .result) (c .before .integer-hash .ensures) (c .fraction-hash .ensures))
+add-fraction c = omega (arith, hash-once (stateOf (c .before .before .next-state .result)) (c .before .integer-hash .ensures) (c .fraction-hash .ensures))
 
 add-at : tie.Need-add-at Inv-loop μ-loop
 add-at c = omega arith
@@ -47,17 +48,8 @@ loop-again c =
     reading-turns (l .before .loop .inv) (l .loop-test .taken) (c .before .before .next-state .ensures) (c .before .integer-hash .ensures)
     (c .fraction-hash .ensures)
 
-leading-sign-requires : tie.Need-leading-sign-requires Inv-loop μ-loop
-leading-sign-requires c κs = tt
-
-is-exponential-requires : tie.Need-is-exponential-requires Inv-loop μ-loop
-is-exponential-requires c κs = tt
-
 returns : tie.Need-returns Inv-loop μ-loop
-returns c =
-    let s = c .before in
-    let l = s .before in
-    scans (reading-ends (l .before .loop .inv) (l .loop-test .left)) (s .leading-sign .ensures) (c .is-exponential .ensures)
+returns c = reading-ends (c .before .loop .inv) (c .loop-test .left)
 
 pub scan-bytes-spec : {M : Type 1} → statement M
 scan-bytes-spec =
@@ -75,6 +67,4 @@ scan-bytes-spec =
     add-at
     loop-less
     loop-again
-    leading-sign-requires
-    is-exponential-requires
     returns)

@@ -2,6 +2,7 @@
 use mathlib.Core.Path.{_≡_, ap, sym, _∙_}
 use Prim.Native.Nat.{ℕ}
 use native.Mathlib.Omega.{arith}
+use borrow.Author.Needs.{needs}
 use lib.Dec.{ltb}
 use Rattle.decimal.proofs.NumberLaws.{normal-top, normal-range, normal-is-zero}
 use Rattle.decimal.proofs.TruncationLaws.{exceeds-zero, exceeds-range}
@@ -18,15 +19,20 @@ returns c =
     (ap (λ (n : Number). exceeds (s .args .image) n) (normal-is-zero (s .args .number) (s .pre) zero)
     ∙ exceeds-zero (s .args .image))
 
+cast-result : tie.Need-cast-result
+cast-result c = search needs
+
 integer-digits-requires : tie.Need-integer-digits-requires
-integer-digits-requires c κs = normal-top (c .before .before .args .number) (c .before .before .pre)
+integer-digits-requires c κs =
+    let s = c .before .before .before in
+    normal-top (s .args .number) (s .pre)
 
 returns-2 : tie.Need-returns-2
 returns-2 c =
     let s = c .before .before .before .before in
     let nonzero : s .args .number .mantissa ≡ 0 → ⊥ = omega arith in
-    ap (λ (k : ℕ). ltb (s .args .image .integer) k) (c .before .integer-digits .ensures)
+    ap (λ (k : ℕ). ltb (s .args .image .integer) k) (c .integer-digits .ensures)
     ∙ sym (exceeds-range (s .args .image) (s .args .number) (normal-range (s .args .number) (s .pre) nonzero))
 
 pub exceeds-spec : {M : Type 1} → statement M
-exceeds-spec = tie.close (tie.spec returns integer-digits-requires returns-2)
+exceeds-spec = tie.close (tie.spec returns cast-result integer-digits-requires returns-2)

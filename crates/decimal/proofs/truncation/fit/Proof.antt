@@ -2,7 +2,7 @@
 use mathlib.Core.Path.{ap, sym, _∙_}
 use borrow.Author.Needs.{needs}
 use Rattle.decimal.specs.Image.{imageMeaning}
-use Rattle.decimal.specs.Truncation.{checkedOnly}
+use Rattle.decimal.specs.Answer.{checkedOnly}
 use Rattle.decimal.proofs.TruncationLaws.{truncation-image-refused, truncation-abnormal, truncation-limited}
 use Rattle.decimal.proofs.truncation.fit.Statement.{statement}
 use Rattle.decimal.proofs.truncation.fit.Tie as tie

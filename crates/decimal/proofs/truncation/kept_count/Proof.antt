@@ -16,15 +16,24 @@ returns c =
     let zero : a .number .mantissa ≡ 0 = omega arith in
     sym (kept-zero (a .image) (a .number) zero)
 
+cast-result : tie.Need-cast-result
+cast-result c = search needs
+
+cast-result-2 : tie.Need-cast-result-2
+cast-result-2 c = search needs
+
 add-result : tie.Need-add-result
-add-result c = omega (arith, c .before .before .before .before .pre .size)
+add-result c = omega (arith, c .before .before .before .before .before .pre .size)
 
 returns-2 : tie.Need-returns-2
 returns-2 c =
-    let a = c .before .before .before .before .args in
+    let a = c .before .before .before .before .before .args in
     let nonzero : a .number .mantissa ≡ 0 → ⊥ = omega arith in
     let kind : a .image .exponential ≡ true = search needs in
     sym (kept-exponential (a .image) (a .number) nonzero kind)
+
+cast-end : tie.Need-cast-end
+cast-end c = search needs
 
 add-end : tie.Need-add-end
 add-end c =
@@ -53,4 +62,4 @@ returns-4 c =
 
 pub kept-count-spec : {M : Type 1} → statement M
 kept-count-spec =
-    tie.close (tie.spec returns add-result returns-2 add-end add-end-2 returns-3 returns-4)
+    tie.close (tie.spec returns cast-result cast-result-2 add-result returns-2 cast-end add-end add-end-2 returns-3 returns-4)

@@ -1,7 +1,7 @@
 -- `limits` meets its contract: each test on the way is one of the image's limits. Assumes nothing.
 use mathlib.Core.Path.{ap, sym, _∙_}
 use borrow.Author.Needs.{needs}
-use Rattle.decimal.specs.Truncation.{checkedOnly}
+use Rattle.decimal.specs.Answer.{checkedOnly}
 use Rattle.decimal.proofs.TruncationLaws.{limited-exponent, limited-exceeds, limited-inside, limited-below}
 use Rattle.decimal.proofs.truncation.limits.Statement.{statement}
 use Rattle.decimal.proofs.truncation.limits.Tie as tie

@@ -19,6 +19,9 @@ add-result c =
     let s = c .before .before .before .before in
     omega (arith, normal-top (s .args .number) (s .pre .number-checked))
 
+cast-result : tie.Need-cast-result
+cast-result c = search needs
+
 sub-result : tie.Need-sub-result
 sub-result c =
     let s = c .before .before .before .before .before in
@@ -41,4 +44,4 @@ returns-3 c =
     sym (stored-fixed (a .image) (a .number) nonzero kind)
 
 pub stored-exponent-spec : {M : Type 1} → statement M
-stored-exponent-spec = tie.close (tie.spec returns add-result sub-result returns-2 returns-3)
+stored-exponent-spec = tie.close (tie.spec returns add-result cast-result sub-result returns-2 returns-3)

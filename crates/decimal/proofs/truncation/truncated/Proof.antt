@@ -1,29 +1,15 @@
 -- `truncated` meets its contract: with no digit kept it is zero, else the number with the other digits zero. Assumes nothing.
-use Prim.Native.Nat.{ℕ, _-_, _%_, _^_, _<_}
+use Prim.Native.Nat.{ℕ, _-_, _*_, _/_, _^_, _<_}
 use mathlib.Core.Path.{_≡_, refl, ap, sym, _∙_}
 use mathlib.Core.Bool.{Bool, not, _&&_}
 use native.Mathlib.Omega.{arith}
-use native.Mathlib.Nat.{mod-le}
 use lib.Dec.{eqb}
 use borrow.Author.Needs.{needs}
 use Rattle.decimal.specs.declared.number.Number.{Number}
 use Rattle.decimal.specs.declared.image.Image.{Image}
-use Rattle.decimal.specs.Answer.{Answer, done, refused, _then_}
+use Rattle.decimal.specs.Answer.{Answer, done, refused, _then_, checkMeaning}
 use Rattle.decimal.specs.Digits.{precision}
-use Rattle.decimal.specs.Truncation.{
-  isSigned,
-  truncatedTo,
-  truncation,
-  numberOf,
-  truncatedNumber,
-  fitMeaning,
-  Fit,
-  keptCount,
-  droppedCount,
-  keptNumber,
-}
-use Rattle.decimal.proofs.PowerLaws.{pow10-pos}
-use Rattle.decimal.proofs.ScaleLaws.{cut-by-remainder}
+use Rattle.decimal.specs.Truncation.{isSigned, truncatedTo, truncation, numberOf, truncatedNumber, Fit, keptCount, keptNumber}
 use Rattle.decimal.proofs.NumberLaws.{number-path}
 use Rattle.decimal.proofs.TruncationLaws.{fit-truncation}
 use Rattle.decimal.proofs.KeptLaws.{checked-refused, checked-fits, kept-size, number-none, number-some}
@@ -43,17 +29,16 @@ module _ (place : ℕ) (im : Image) (n : Number) where
 
 -- the parts that the code finds make the number
 made :
-    (im : Image) (n : Number) {negative : Bool} {count power : ℕ}
+    (im : Image) (n : Number) {negative : Bool} {count mantissa : ℕ}
     → count ≡ keptCount im n
     → negative ≡ (isSigned (im .sign) && (n .negative && not (eqb count 0)))
-    → power ≡ 10 ^ (precision - count)
-    → _≡_ {A = Number} (record { negative = negative; mantissa = n .mantissa - n .mantissa % power; exponent = n .exponent }) (keptNumber im n)
+    → mantissa ≡ n .mantissa / 10 ^ (precision - count) * 10 ^ (precision - count)
+    → _≡_ {A = Number} (record { negative = negative; mantissa = mantissa; exponent = n .exponent }) (keptNumber im n)
 unfolding keptNumber
-made im n counted sign powered =
+made im n counted sign cut =
     number-path
     (sign ∙ ap (λ (c : ℕ). isSigned (im .sign) && (n .negative && not (eqb c 0))) counted)
-    (ap (λ (p : ℕ). n .mantissa - n .mantissa % p) (powered ∙ ap (λ (c : ℕ). 10 ^ (precision - c)) counted)
-    ∙ cut-by-remainder (precision - 1) (n .mantissa) (droppedCount im n))
+    (cut ∙ ap (λ (c : ℕ). n .mantissa / 10 ^ (precision - c) * 10 ^ (precision - c)) counted)
     refl
 
 fit-requires : tie.Need-fit-requires
@@ -64,54 +49,44 @@ enum-known-refusal c = search needs
 
 returns : tie.Need-returns
 returns c =
-    let answer = sym (c .before .before .before .fit .ensures) ∙ ap fitMeaning (c .before .refusal .given .1) in
+    let answer = sym (c .before .before .before .fit .ensures) ∙ ap checkMeaning (c .before .refusal .given .1) in
     sym (refuses _ _ _ (checked-refused _ answer))
 
 enum-told : tie.Need-enum-told
 enum-told c = search needs
 
 kept-count-requires : tie.Need-kept-count-requires
-kept-count-requires c κs = checked-fits _ _ _ (sym (c .before .before .fit .ensures) ∙ ap fitMeaning (c .enum-told .given .1))
+kept-count-requires c κs = checked-fits _ _ _ (sym (c .before .before .fit .ensures) ∙ ap checkMeaning (c .enum-told .given .1))
 
 returns-2 : tie.Need-returns-2
 returns-2 c =
     let k = c .before in
     let t = k .before in
     let a = t .before .before .before .args in
-    let fit = checked-fits (a .place) (a .image) (a .number) (sym (t .before .before .fit .ensures) ∙ ap fitMeaning (t .enum-told .given .1)) in
+    let fit = checked-fits (a .place) (a .image) (a .number) (sym (t .before .before .fit .ensures) ∙ ap checkMeaning (t .enum-told .given .1)) in
     let none : keptCount (a .image) (a .number) ≡ 0 = sym (k .kept-count .ensures) ∙ omega arith in
     sym (stands (a .place) (a .image) (a .number) fit ∙ number-none (a .image) (a .number) fit (a .place) none)
 
 keeps-minus-requires : tie.Need-keeps-minus-requires
 keeps-minus-requires c κs = search needs
 
-sub-power : tie.Need-sub-power
-sub-power c =
+cut-mantissa-requires : tie.Need-cut-mantissa-requires
+cut-mantissa-requires c κs =
     let k = c .before .before in
     let t = k .before in
     let a = t .before .before .before .args in
-    let fit = checked-fits (a .place) (a .image) (a .number) (sym (t .before .before .fit .ensures) ∙ ap fitMeaning (t .enum-told .given .1)) in
+    let fit = checked-fits (a .place) (a .image) (a .number) (sym (t .before .before .fit .ensures) ∙ ap checkMeaning (t .enum-told .given .1)) in
     omega (arith, kept-size (a .image) (a .number) fit, fit .size, k .kept-count .ensures)
-
-power-requires : tie.Need-power-requires
-power-requires c κs = search needs
-
-rem-t11 : tie.Need-rem-t11
-rem-t11 c = omega (arith, pow10-pos (precision - c .before .before .before .before .kept-count .result), c .before .power .ensures)
-
-sub-t12 : tie.Need-sub-t12
-sub-t12 c = mod-le _ _
 
 returns-3 : tie.Need-returns-3
 returns-3 c =
-    let p = c .before .before in
-    let m = p .before in
+    let m = c .before in
     let k = m .before .before in
     let t = k .before in
     let a = t .before .before .before .args in
-    let fit = checked-fits (a .place) (a .image) (a .number) (sym (t .before .before .fit .ensures) ∙ ap fitMeaning (t .enum-told .given .1)) in
+    let fit = checked-fits (a .place) (a .image) (a .number) (sym (t .before .before .fit .ensures) ∙ ap checkMeaning (t .enum-told .given .1)) in
     let some : 0 < keptCount (a .image) (a .number) = omega (arith, k .kept-count .ensures, m .before .if1 .left) in
-    ap {B = Answer Number} done (made (a .image) (a .number) (k .kept-count .ensures) (m .keeps-minus .ensures) (p .power .ensures))
+    ap {B = Answer Number} done (made (a .image) (a .number) (k .kept-count .ensures) (m .keeps-minus .ensures) (c .cut-mantissa .ensures))
     ∙ sym (stands (a .place) (a .image) (a .number) fit ∙ number-some (a .image) (a .number) fit some (a .place))
 
 pub truncated-spec : {M : Type 1} → statement M
@@ -125,8 +100,5 @@ truncated-spec =
     kept-count-requires
     returns-2
     keeps-minus-requires
-    sub-power
-    power-requires
-    rem-t11
-    sub-t12
+    cut-mantissa-requires
     returns-3)

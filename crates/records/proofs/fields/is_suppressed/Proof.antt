@@ -22,10 +22,13 @@ returns-2 c =
 add-result : tie.Need-add-result
 add-result c = search needs
 
+cast-result : tie.Need-cast-result
+cast-result c = search needs
+
 returns-3 : tie.Need-returns-3
 returns-3 c =
     let a = c .before .before .before .before .args in
     rw (c .before .before .before .if1 .left, eq-eqb (a .digit) 0 (c .before .before .if2 .left))
 
 pub is-suppressed-spec : {M : Type 1} → statement M
-is-suppressed-spec = tie.close (tie.spec returns returns-2 add-result returns-3)
+is-suppressed-spec = tie.close (tie.spec returns returns-2 add-result cast-result returns-3)

@@ -3,7 +3,7 @@ use Prim.Native.Nat.{ℕ, _+_, _-_}
 use mathlib.Core.Path.{_≡_, ap, sym, _∙_}
 use native.Mathlib.Omega.{arith}
 use lib.ListN.{length, take, drop}
-use Rattle.codec.specs.Body.{written}
+use Rattle.codec.specs.Answers.{written}
 use Rattle.records.specs.declared.fields.Element.{Element}
 use Rattle.records.specs.Fields.{elementBytes, textIn}
 use Rattle.records.proofs.FieldLaws.{text-inside}
@@ -24,7 +24,7 @@ add-end : tie.Need-add-end
 add-end c =
     let s = c .before .before .before .before .before .before in
     let g = c .before .element2 .given in
-    omega (arith, text-inside (length (s .args .texts .now)) (g .0 .0) (g .0 .1 .0) (g .1) (s .pre .1))
+    omega (arith, text-inside (length (s .args .texts .now)) (g .0 .0) (g .0 .1 .0) (g .1) (s .pre .2))
 
 sub-write-text : tie.Need-sub-write-text
 sub-write-text c = search needs
@@ -36,7 +36,7 @@ part-write-text-end : tie.Need-part-write-text-end
 part-write-text-end c =
     let s = c .before .before .before .before .before .before in
     let g = c .before .element2 .given in
-    text-inside (length (s .args .texts .now)) (g .0 .0) (g .0 .1 .0) (g .1) (s .pre .1)
+    text-inside (length (s .args .texts .now)) (g .0 .0) (g .0 .1 .0) (g .1) (s .pre .2)
 
 write-text-requires : tie.Need-write-text-requires
 write-text-requires c κs = search needs

@@ -3,7 +3,8 @@
 use mathlib.Core.Path.{ap}
 use native.Mathlib.Omega.{arith}
 use borrow.Author.Needs.{needs}
-use Rattle.codec.specs.Body.{listOf, writeMeaning}
+use Rattle.codec.specs.Answers.{writeMeaning}
+use Rattle.codec.specs.Lists.{listOf}
 use Rattle.codec.proofs.ContentsLaws.{told-refused}
 use Rattle.records.specs.Files.{readUsed}
 use Rattle.records.proofs.FileLaws.{adds-refused, adds-within, adds-room, adds-stopped, adds-done}

@@ -24,24 +24,24 @@ use Rattle.records.proofs.listing.check_file.Statement.{statement}
 use Rattle.records.proofs.listing.check_file.Tie as tie
 
 abbrev Inv-loop : tie.InvT-loop
-Inv-loop file table images at₀ at = (f : FileHeld file table) → Checking file (f .table) at
+Inv-loop file table at₀ at = (f : FileHeld file table) → Checking file (f .table) at
 
 abbrev μ-loop : tie.MeasureT-loop
-μ-loop file table images at₀ at = length file - at
+μ-loop file table at₀ at = length file - at
 
 -- what was read of the file
 held :
-    (c : tie.After-images Inv-loop μ-loop)
-    → FileHeld (c .before .before .before .before .before .args .file .now) (c .before .before .before .read-file .result)
+    (c : tie.After-enum-told2 Inv-loop μ-loop)
+    → FileHeld (c .before .before .before .before .args .file .now) (c .before .before .read-file .result)
 held c =
-    let f = c .before .before .before in
-    file-held (f .before .before .args .file .now) (f .read-file .ensures) (c .before .enum-told2 .given .1)
+    let f = c .before .before in
+    file-held (f .before .before .args .file .now) (f .read-file .ensures) (c .enum-told2 .given .1)
 
 -- the body at the place ends within the file
 inside :
     (c : tie.In-loop Inv-loop μ-loop)
-    → c .before .loop .at + c .before .before .before .before .before .read-file .result .body
-    ≤ length (c .before .before .before .before .before .before .before .args .file .now)
+    → c .before .loop .at + c .before .before .before .before .read-file .result .body
+    ≤ length (c .before .before .before .before .before .before .args .file .now)
 inside c =
     let l = c .before in
     let f = held (l .before) in
@@ -62,22 +62,10 @@ enum-told-2 : tie.Need-enum-told-2 Inv-loop μ-loop
 enum-told-2 c = search needs
 
 loop-holds : tie.Need-loop-holds Inv-loop μ-loop
-loop-holds c f = checking-starts (c .before .before .before .before .before .args .file .now) (f .reads) (f .held .size)
+loop-holds c f = checking-starts (c .before .before .before .before .args .file .now) (f .reads) (f .held .size)
 
-add-end : tie.Need-add-end Inv-loop μ-loop
-add-end c = omega (arith, inside (c .before))
-
-sub-unpack-under : tie.Need-sub-unpack-under Inv-loop μ-loop
-sub-unpack-under c = omega arith
-
-part-unpack-under-start : tie.Need-part-unpack-under-start Inv-loop μ-loop
-part-unpack-under-start c = omega (arith, inside (c .before))
-
-part-unpack-under-end : tie.Need-part-unpack-under-end Inv-loop μ-loop
-part-unpack-under-end c = omega (arith, inside (c .before))
-
-unpack-under-requires : tie.Need-unpack-under-requires Inv-loop μ-loop
-unpack-under-requires c κs = search needs
+read-body-requires : tie.Need-read-body-requires Inv-loop μ-loop
+read-body-requires c κs = inside c
 
 enum-known-found : tie.Need-enum-known-found Inv-loop μ-loop
 enum-known-found c = search needs
@@ -89,38 +77,41 @@ returns-2 : tie.Need-returns-2 Inv-loop μ-loop
 returns-2 c =
     let n = c .before .before in
     let u = n .before .before in
-    let i = u .before .before .before in
+    let i = u .before in
     let l = i .before in
-    let a = l .before .before .before .before .before .before .args in
+    let a = l .before .before .before .before .before .args in
     let f = held (l .before) in
-    let body = part-unpacked (f .held) (a .file .now) (l .loop .at) (u .unpack-under .ensures) in
+    let body = part-unpacked (f .held) (a .file .now) (l .loop .at) (u .read-body .ensures) in
     c .refused .ensures
     ∙ sym (ap contentsOf (checking-stops (l .loop .inv f) (i .loop-test .taken) (unpack-refused _ body (n .found .given .1))))
 
 enum-told-3 : tie.Need-enum-told-3 Inv-loop μ-loop
 enum-told-3 c = search needs
 
+add-at : tie.Need-add-at Inv-loop μ-loop
+add-at c = omega (arith, inside (c .before .before .before .before))
+
 loop-less : tie.Need-loop-less Inv-loop μ-loop
 loop-less c =
-    let i = c .before .before .before .before .before in
+    let i = c .before .before .before .before in
     let f = held (i .before .before) in
     omega (arith, inside i, f .held .body, f .some)
 
 loop-again : tie.Need-loop-again Inv-loop μ-loop
 loop-again c f =
-    let u = c .before .before in
-    let i = u .before .before .before in
+    let u = c .before .before .before in
+    let i = u .before in
     let l = i .before in
-    let a = l .before .before .before .before .before .before .args in
-    let body = part-unpacked (f .held) (a .file .now) (l .loop .at) (u .unpack-under .ensures) in
-    checking-turns (l .loop .inv f) (i .loop-test .taken) (f .held .sound .all) (unpack-read _ body (c .enum-told3 .given .1) .1)
+    let a = l .before .before .before .before .before .args in
+    let body = part-unpacked (f .held) (a .file .now) (l .loop .at) (u .read-body .ensures) in
+    checking-turns (l .loop .inv f) (i .loop-test .taken) (f .held .sound .all) (unpack-read _ body (c .before .enum-told3 .given .1) .1)
     (ap (λ (k : ℕ). l .loop .at + k) (f .held .body))
 
 returns-3 : tie.Need-returns-3 Inv-loop μ-loop
 returns-3 c =
     let l = c .before in
     let f = held (l .before) in
-    let r = l .before .before .before .before in
+    let r = l .before .before .before in
     r .read-file .ensures ∙ ap contentsOf (f .reads ∙ sym (checking-ends (l .loop .inv f) (f .some) (c .loop-test .left)))
 
 pub check-file-spec : {M : Type 1} → statement M
@@ -134,15 +125,12 @@ check-file-spec =
     returns
     enum-told-2
     loop-holds
-    add-end
-    sub-unpack-under
-    part-unpack-under-start
-    part-unpack-under-end
-    unpack-under-requires
+    read-body-requires
     enum-known-found
     refused-requires
     returns-2
     enum-told-3
+    add-at
     loop-less
     loop-again
     returns-3)

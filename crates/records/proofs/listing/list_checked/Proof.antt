@@ -42,7 +42,7 @@ last s = lastLine (s .args .file .now) (s .args .table)
 
 -- the entry
 abbrev entry : tie.Else1 → tie.Start
-entry c = c .before .before .before .before .before .before .before .before .before
+entry c = c .before .before .before .before .before .before .before .before .before .before
 
 -- there is room for it
 fits : (c : tie.Else1) → length (first (entry c)) + length (lines (entry c)) + length (last (entry c)) ≤ length (entry c .args .buffer .now)
@@ -54,10 +54,10 @@ fits c =
     (g .is-longer .ensures) (c .if1 .left)
 
 sub-records : tie.Need-sub-records
-sub-records c = listed-sizes (held (c .before .before .before)) .2
+sub-records c = listed-sizes (held (c .before .before .before .before)) .2
 
 div-records : tie.Need-div-records
-div-records c = listed-sizes (held (c .before .before .before .before)) .0
+div-records c = listed-sizes (held (c .before .before .before .before .before)) .0
 
 mul-others : tie.Need-mul-others
 mul-others c = search needs
@@ -67,28 +67,28 @@ decimal-length-requires c κs = search needs
 
 add-others : tie.Need-add-others
 add-others c =
-    let s = c .before .before .before .before .before in
-    omega (arith, c .decimal-length .ensures, decimal-few (s .args .table .count))
+    let s = c .before .before .before .before .before .before in
+    omega (arith, c .decimal-length .ensures, decimal-few (s .args .table .images .count))
 
 decimal-length-requires-2 : tie.Need-decimal-length-requires-2
 decimal-length-requires-2 c κs = search needs
 
 add-others-2 : tie.Need-add-others-2
 add-others-2 c =
-    let a = c .before .before .before .before .before .before .args in
+    let a = c .before .before .before .before .before .before .before .args in
     omega (
       arith,
       c .before .decimal-length .ensures,
       c .decimal-length2 .ensures,
-      decimal-few (a .table .count),
+      decimal-few (a .table .images .count),
       decimal-few (recordsOf (a .file .now) (a .table)),
     )
 
 sub-is-longer : tie.Need-sub-is-longer
-sub-is-longer c = omega (arith, listed-sizes (held (c .before .before .before .before .before .before .before)) .1)
+sub-is-longer c = omega (arith, listed-sizes (held (c .before .before .before .before .before .before .before .before)) .1)
 
 is-longer-requires : tie.Need-is-longer-requires
-is-longer-requires c κs = omega (arith, listed-sizes (held (c .before .before .before .before .before .before .before)) .1)
+is-longer-requires c κs = omega (arith, listed-sizes (held (c .before .before .before .before .before .before .before .before)) .1)
 
 no-room-requires : tie.Need-no-room-requires
 no-room-requires c κs = search needs
@@ -97,7 +97,7 @@ returns : tie.Need-returns
 returns c =
     let g = c .before .before in
     let d = g .before .before in
-    let s = d .before .before .before .before .before .before in
+    let s = d .before .before .before .before .before .before .before in
     let a = s .args in
     let long =
     measured-long (held s) (length (a .buffer .now)) (d .before .decimal-length .ensures) (d .decimal-length2 .ensures)

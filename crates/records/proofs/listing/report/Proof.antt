@@ -2,7 +2,7 @@
 use mathlib.Core.Path.{ap, sym}
 use borrow.Author.Needs.{needs}
 use lib.ListN.{length}
-use Rattle.codec.specs.Body.{within}
+use Rattle.codec.specs.Answers.{within}
 use Rattle.codec.proofs.ContentsLaws.{told-refused}
 use Rattle.records.specs.Listing.{checkedFile, Listed}
 use Rattle.records.proofs.ReportLaws.{passed-on}

@@ -1,20 +1,18 @@
 -- `write_record` meets its contract. The loop's invariant: the texts of the first columns are written, parted by one blank.
 -- The measure is what is left of the columns. Assumes nothing.
 use Prim.Native.Nat.{ℕ, _+_, _-_, _<_, _≤_}
-use mathlib.Core.Path.{_≡_, ap, _∙_}
+use mathlib.Core.Path.{_≡_, ap, sym, _∙_}
 use mathlib.Core.List.{List, []}
 use mathlib.Core.Logic.{⊎-elim}
 use native.Mathlib.Omega.{arith}
 use borrow.Author.Needs.{needs}
-use lib.ListN.{length, take, drop, getD, length-set}
+use lib.ListN.{length, take, getD, length-set, length-map}
 use Rattle.decimal.specs.declared.image.Image.{Image}
 use Rattle.decimal.specs.declared.number.Number.{Number}
-use Rattle.decimal.specs.Answer.{Answer, done}
-use Rattle.codec.specs.Lists.{storedIn}
-use Rattle.codec.specs.Contents.{maxColumns}
-use Rattle.codec.specs.Body.{sized, writeMeaning}
+use Rattle.decimal.specs.Answer.{Answer, done, given}
+use Rattle.codec.specs.Answers.{storedIn, sized, writeMeaning}
+use Rattle.codec.specs.Lists.{maxColumns}
 use Rattle.codec.specs.Alpha.{alphaTexts, convertingUnder}
-use Rattle.records.specs.Listing.{given}
 use Rattle.records.proofs.RecordLaws.{
   Texting,
   Separated,
@@ -32,27 +30,29 @@ use Rattle.records.proofs.RecordLaws.{
   part-converted,
   wrote-length,
   wrote-some,
-  part-written,
 }
+use Rattle.records.proofs.WritingLaws.{partBehind, part-written}
 use Rattle.records.proofs.listing.write_record.Statement.{statement}
 use Rattle.records.proofs.listing.write_record.Tie as tie
 
 abbrev Inv-loop : tie.InvT-loop
-Inv-loop count buffer₀ from images values out₀ column₀ buffer out column =
-    (column ≤ count) × Texting (given (alphaTexts (take count images) (take count values))) buffer₀ from buffer out column
+Inv-loop buffer₀ from images numbers count out₀ column₀ buffer out column =
+    (column ≤ count)
+    × Texting (given (alphaTexts (take (images .count) (images .values)) (take (images .count) (numbers .values)))) buffer₀ from buffer
+    out column
 
 abbrev μ-loop : tie.MeasureT-loop
-μ-loop count buffer₀ from images values out₀ column₀ buffer out column = count - column
+μ-loop buffer₀ from images numbers count out₀ column₀ buffer out column = count - column
 
 -- the texts of the record
 abbrev texts : tie.Start Inv-loop μ-loop → List (List ℕ)
-texts s = given (alphaTexts (take (s .args .count) (s .args .t1)) (take (s .args .count) (s .args .t3)))
+texts s = given (alphaTexts (take (s .args .t1 .count) (s .args .t1 .values)) (take (s .args .t1 .count) (s .args .t2 .values)))
 
 -- one for each column
-long : (s : tie.Start Inv-loop μ-loop) → length (texts s) ≡ s .args .count
+long : (s : tie.Start Inv-loop μ-loop) → length (texts s) ≡ s .args .t1 .count
 long s =
-    let many : length (s .args .t1) ≡ maxColumns = search needs in
-    texts-long (s .args .t1) (s .args .t3) (s .args .count) (s .pre .1) (omega arith)
+    let many : length (s .args .t1 .values) ≡ maxColumns = sym (length-map (s .args .t1 .values) _) ∙ s .good .0 .1 .1 .0 .1 .0 .1 in
+    texts-long (s .args .t1 .values) (s .args .t2 .values) (s .args .t1 .count) (s .pre .1) (omega arith)
 
 -- the place of the loop's head, where a blank may stand before a text
 abbrev head : tie.Joined1 Inv-loop μ-loop → tie.At-loop Inv-loop μ-loop
@@ -68,7 +68,7 @@ text c = getD (texts (entry c)) (head c .loop .column) []
 
 -- the part of the buffer that is lent for it
 abbrev part : tie.Joined1 Inv-loop μ-loop → List ℕ
-part c = take (length (c .if1 .buffer) - c .if1 .out) (drop (c .if1 .out) (c .if1 .buffer))
+part c = partBehind (c .if1 .buffer) (c .if1 .out)
 
 -- what is written before it
 joined :
@@ -104,11 +104,13 @@ wrote w =
     let s = entry j in
     let a = s .args in
     let k = head j .loop .column in
-    let many : length (a .t1) ≡ maxColumns = search needs in
-    let same : (d : Image) (n : Number) → convertingUnder (getD (a .t1) k d) (getD (a .t3) k n) (length (part j)) ≡ done (text j) =
+    let many : length (a .t1 .values) ≡ maxColumns = sym (length-map (a .t1 .values) _) ∙ s .good .0 .1 .1 .0 .1 .0 .1 in
+    let same :
+    (d : Image) (n : Number) → convertingUnder (getD (a .t1 .values) k d) (getD (a .t2 .values) k n) (length (part j)) ≡ done (text j) =
     λ d n.
-    part-converted (getD (a .t1) k d) (getD (a .t3) k n) (j .if1 .buffer) (j .if1 .out)
-    (text-under (a .t1) (a .t3) (a .count) (s .pre .1) (omega arith) k d n (j .before .before .before .loop-test .taken)) (room j) in
+    part-converted (getD (a .t1 .values) k d) (getD (a .t2 .values) k n) (j .if1 .buffer) (j .if1 .out)
+    (text-under (a .t1 .values) (a .t2 .values) (a .t1 .count) (s .pre .1) (omega arith) k d n (j .before .before .before .loop-test .taken))
+    (room j) in
     let e = w .write-alpha-under .ensures in
     (e .0 ∙ ap sized (same _ _), e .1 ∙ ap (λ (x : Answer (List ℕ)). storedIn x (part j)) (same _ _))
 
@@ -118,14 +120,14 @@ loop-holds c = let s = c .before in (omega arith, texting-starts (texts s) (s .a
 mul-image : tie.Need-mul-image Inv-loop μ-loop
 mul-image c = omega arith
 
-array-copy-out-image : tie.Need-array-copy-out-image Inv-loop μ-loop
-array-copy-out-image c = omega arith
+element-copy-out-image : tie.Need-element-copy-out-image Inv-loop μ-loop
+element-copy-out-image c = omega arith
 
 mul-number : tie.Need-mul-number Inv-loop μ-loop
 mul-number c = omega arith
 
-array-copy-out-number : tie.Need-array-copy-out-number Inv-loop μ-loop
-array-copy-out-number c = omega arith
+element-copy-out-number : tie.Need-element-copy-out-number Inv-loop μ-loop
+element-copy-out-number c = omega arith
 
 slice-write-buffer : tie.Need-slice-write-buffer Inv-loop μ-loop
 slice-write-buffer c = let l = c .before .before .before .before in texting-room (l .loop .inv .1) (l .before .before .pre .2)
@@ -211,9 +213,9 @@ write-record-spec =
     μ-loop
     loop-holds
     mul-image
-    array-copy-out-image
+    element-copy-out-image
     mul-number
-    array-copy-out-number
+    element-copy-out-number
     slice-write-buffer
     add-out
     sub-write-alpha-under

@@ -3,7 +3,6 @@
 use Prim.Native.Nat.{ℕ, _+_, _-_, _≤_}
 use mathlib.Core.Path.{ap, _∙_}
 use native.Mathlib.Omega.{arith}
-use borrow.Author.Needs.{needs}
 use lib.ListN.{length}
 use Rattle.codec.proofs.BufferLaws.{written-length}
 use Rattle.records.specs.Listing.{linesOf}
@@ -57,50 +56,41 @@ loop-holds c h =
     let a = c .before .before .before .args in
     lining-starts (h .lists) (a .buffer .now) (a .from) (h .held .size)
 
-add-end : tie.Need-add-end Inv-loop μ-loop
-add-end c = omega (arith, inside (c .before))
-
-sub-unpack-under : tie.Need-sub-unpack-under Inv-loop μ-loop
-sub-unpack-under c = omega arith
-
-part-unpack-under-start : tie.Need-part-unpack-under-start Inv-loop μ-loop
-part-unpack-under-start c = omega (arith, inside (c .before))
-
-part-unpack-under-end : tie.Need-part-unpack-under-end Inv-loop μ-loop
-part-unpack-under-end c = omega (arith, inside (c .before))
-
-unpack-under-requires : tie.Need-unpack-under-requires Inv-loop μ-loop
-unpack-under-requires c κs = search needs
+read-body-requires : tie.Need-read-body-requires Inv-loop μ-loop
+read-body-requires c κs = inside c
 
 write-record-requires : tie.Need-write-record-requires Inv-loop μ-loop
 write-record-requires c κs =
-    let u = c .before .before .before in
-    let i = u .before .before .before in
+    let u = c .before .before in
+    let i = u .before in
     let l = i .before in
     let s = entry l in
     let h = held s in
     let more = i .loop-test .taken in
-    let line = front-line h (lines l) more (u .unpack-under .ensures) in (
+    let line = front-line h (lines l) more (u .read-body .ensures) in (
       omega (arith, h .held .count, h .held .sound .high),
-      front-has h (lines l) more (u .unpack-under .ensures),
+      front-has h (lines l) more (u .read-body .ensures),
       omega (arith, ap length line, lining-room (lines l) more (s .pre .1)),
     )
 
+add-at : tie.Need-add-at Inv-loop μ-loop
+add-at c = omega (arith, inside (c .before .before .before .before .before .before .before))
+
 loop-less : tie.Need-loop-less Inv-loop μ-loop
 loop-less c =
-    let i = c .before .before .before .before .before .before .before .before .before in
+    let i = c .before .before .before .before .before .before .before in
     let h = held (entry (i .before)) in
     omega (arith, inside i, h .held .body, h .lists .some)
 
 loop-again : tie.Need-loop-again Inv-loop μ-loop
 loop-again c h =
-    let w = c .before .before in
-    let u = w .before .before .before .before in
-    let i = u .before .before .before in
+    let w = c .before .before .before in
+    let u = w .before .before .before in
+    let i = u .before in
     let l = i .before in
     let v = l .loop .inv h in
     let more = i .loop-test .taken in
-    lining-turns v more (entry l .pre .1) (front-line h v more (u .unpack-under .ensures)) (w .write-record .ensures .0)
+    lining-turns v more (entry l .pre .1) (front-line h v more (u .read-body .ensures)) (w .write-record .ensures .0)
     (w .write-record .ensures .1) (ap (λ (k : ℕ). l .loop .at + k) (h .held .body))
 
 same-length : tie.Need-same-length Inv-loop μ-loop
@@ -121,12 +111,9 @@ write-records-spec =
     Inv-loop
     μ-loop
     loop-holds
-    add-end
-    sub-unpack-under
-    part-unpack-under-start
-    part-unpack-under-end
-    unpack-under-requires
+    read-body-requires
     write-record-requires
+    add-at
     loop-less
     loop-again
     same-length

@@ -5,7 +5,7 @@ use mathlib.Core.Path.{_≡_, ap, _∙_}
 use native.Mathlib.Omega.{arith}
 use lib.ListN.{length}
 use borrow.Author.Needs.{needs}
-use Rattle.codec.specs.Body.{within}
+use Rattle.codec.specs.Answers.{within}
 use Rattle.codec.proofs.BufferLaws.{written-length, written-stored}
 use Rattle.codec.proofs.AlphaLaws.{refused-answers, done-answers}
 use Rattle.records.specs.Listing.{refusalLine}

@@ -6,7 +6,7 @@ use native.Mathlib.Omega.{arith}
 use lib.ListN.{length, length-set}
 use Rattle.decimal.specs.Digits.{digitsOf}
 use Rattle.codec.specs.Alpha.{digitBytes}
-use Rattle.codec.specs.Body.{written}
+use Rattle.codec.specs.Answers.{written}
 use Rattle.records.specs.Writing.{decimalText}
 use Rattle.records.proofs.WritingLaws.{decimal-start, decimal-turn, decimal-end}
 use Rattle.records.proofs.writing.write_decimal.Statement.{statement}
