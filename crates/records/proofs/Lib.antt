@@ -15,6 +15,11 @@ pub mod FindLaws
 pub mod ForecastTheorem
 pub mod SpilledTheorem
 pub mod PrintLaws
+pub mod BoundLaws
+pub mod PlaceLaws
+pub mod PrintBufferLaws
+pub mod PrintCallLaws
+pub mod MeasureLaws
 pub mod DemandTheorem
 pub mod FileLaws
 pub mod FileTheorem

@@ -8,7 +8,8 @@ use lib.ListN.{length, getD}
 use borrow.Author.Needs.{needs}
 use Rattle.decimal.specs.Answer.{checkMeaning}
 use Rattle.records.specs.Printing.{maxElements, checkElement, elementList}
-use Rattle.records.proofs.PrintLaws.{zeroElement, Measuring, measuring-starts, measuring-refused, listed-some, measuring-again, measuring-field, measuring-field-small, spill-once, measuring-turn, measuring-small, measuring-ends, measuring-over, measuring-end-small, measuring-over-small, elements-count, elements-at}
+use Rattle.records.proofs.PlaceLaws.{zeroElement, elements-count, elements-at}
+use Rattle.records.proofs.MeasureLaws.{Measuring, measuring-starts, measuring-refused, listed-some, measuring-again, measuring-field, measuring-field-small, spill-once, measuring-turn, measuring-small, measuring-ends, measuring-over, measuring-end-small, measuring-over-small}
 use Rattle.records.proofs.printing.measure.Statement.{statement}
 use Rattle.records.proofs.printing.measure.Tie as tie
 

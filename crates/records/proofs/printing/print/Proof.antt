@@ -10,7 +10,9 @@ use Rattle.records.specs.Printing.{checkFields, checkSome, elementList, 
 use Rattle.records.specs.Finding.{lineFields}
 use Rattle.records.proofs.CheckLaws.{counts-many, counts-long, counts-done, some-none, some-field, some-refused, line-counts, line-fields, line-some}
 use Rattle.records.proofs.FindLaws.{counted-some, counted-none}
-use Rattle.records.proofs.PrintLaws.{elements-count, print-refused, ready-checks, measured-refused, measured-printed, printing-long, printing-done, answer-refused, answer-printed}
+use Rattle.records.proofs.PlaceLaws.{elements-count}
+use Rattle.records.proofs.PrintCallLaws.{print-refused, ready-checks, printing-long, printing-done, answer-refused, answer-printed}
+use Rattle.records.proofs.MeasureLaws.{measured-refused, measured-printed}
 use Rattle.records.proofs.printing.print.Statement.{statement}
 use Rattle.records.proofs.printing.print.Tie as tie
 

@@ -7,7 +7,7 @@ use Rattle.decimal.specs.Truncation.{truncation}
 use Rattle.records.specs.Fields.{elementSpills}
 use Rattle.records.specs.Marks.{documentMarks}
 use Rattle.records.proofs.FieldLaws.{spilled-not, spilled-is}
-use Rattle.records.proofs.PrintLaws.{spills-yes, spills-no}
+use Rattle.records.proofs.PlaceLaws.{spills-yes, spills-no}
 use Rattle.records.proofs.printing.spill.Statement.{statement}
 use Rattle.records.proofs.printing.spill.Tie as tie
 

@@ -12,7 +12,9 @@ use Rattle.records.specs.Printing.{elementList, checkElement}
 use Rattle.records.specs.Finding.{noField}
 use Rattle.records.proofs.CheckLaws.{element-at}
 use Rattle.records.proofs.FindLaws.{AtField, at-first, no-next, listed-next}
-use Rattle.records.proofs.PrintLaws.{zeroElement, Place, Writing, place-starts, place-literals, place-line, place-small, literals-at, elements-count, elements-at, listed-some, turn-some, turn-ready, turn-place, part-size, writing-starts, writing-length, literals-room, writing-literals, element-room, writing-element, line-room, writing-line, writing-ends}
+use Rattle.records.proofs.PlaceLaws.{zeroElement, Place, place-starts, place-literals, place-line, place-small, literals-at, elements-count, elements-at, turn-some, turn-ready, turn-place}
+use Rattle.records.proofs.PrintBufferLaws.{Writing, part-size, writing-starts, writing-length, literals-room, writing-literals, element-room, writing-element, line-room, writing-line, writing-ends}
+use Rattle.records.proofs.MeasureLaws.{listed-some}
 use Rattle.records.proofs.printing.write_lines.Statement.{statement}
 use Rattle.records.proofs.printing.write_lines.Tie as tie
 
