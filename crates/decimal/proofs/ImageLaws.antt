@@ -1,15 +1,13 @@
--- Document 01, Images: the reader accepts exactly the grammar, and gives its sign, i, f and kind; and the laws of the reader's loop.
+-- Document 01, Images: the reader accepts exactly the grammar, and gives its sign, i, f and kind.
 -- Each image runs to its own counts, and what is accepted is an image (ImageTails). Assumes nothing.
 use Prim.Native.Nat.{ℕ, zero, suc, _+_, _<_, _≤_}
 use native.Mathlib.Omega.{arith}
-use native.Mathlib.Numerals.{add-one}
 use mathlib.Core.Path.{_≡_, refl, ap, sym, _∙_, subst⁻¹}
 use mathlib.Core.Logic.{_⊎_, inl, inr}
 use mathlib.Core.List.{List, [], _∷_, _++_}
 use mathlib.Core.Bool.{Bool, true, false, false≢true}
 use lib.Dec.{ltb, eqb}
-use lib.ListN.{length, drop, getD, drop-of-length-le}
-use lib.Seq.{drop-cons}
+use lib.ListN.{length, getD}
 use borrow.Author.Tests.{eqb-false, ltb-true, ltb-false, lt-ltb, le-ltb, eq-eqb, ne-eqb}
 use Rattle.decimal.specs.declared.image.Sign.{Sign}
 use Rattle.decimal.specs.declared.image.Sign.the-variants.{Unsigned, Plus, Minus}
@@ -216,25 +214,6 @@ read-done place bytes im e = go (reads-exactly place bytes)
 pub unsigned : (b : ℕ) → (b ≡ plusByte → ⊥) → (b ≡ minusByte → ⊥) → signOf b ≡ Unsigned
 unsigned b p m = rw (ne-eqb b plusByte p, ne-eqb b minusByte m)
 
--- The reader's loop: what was read and what is left make the whole.
-
--- the state and the counts after so many bytes
-pub record Reading (bytes : List ℕ) (state : State) (before behind done-to : ℕ) : Type 0 where
-  pub inside : done-to ≤ length bytes
-  pub few : before + behind ≤ done-to
-  pub ends : runState state (drop done-to bytes) ≡ runState Start bytes
-  pub integers : before + integersFrom state (drop done-to bytes) ≡ integersFrom Start bytes
-  pub fractions : behind + fractionsFrom state (drop done-to bytes) ≡ fractionsFrom Start bytes
-
--- before the first byte
-pub reading-starts : (bytes : List ℕ) → Reading bytes Start 0 0 0
-reading-starts bytes = record { inside = omega arith; few = omega arith; ends = refl; integers = omega arith; fractions = omega arith }
-
--- what a # adds
-pub count-one : (t : Bool) (n c r : ℕ) → r ≡ counted t 0 → (n + r) + c ≡ n + counted t c
-count-one true n c r e = omega arith
-count-one false n c r e = omega arith
-
 -- one byte counts once at most
 pub hash-once : (s : State) {i f : ℕ} → i ≡ counted (integerHash s) 0 → f ≡ counted (fractionHash s) 0 → i + f ≤ 1
 hash-once Start p q = omega arith
@@ -245,44 +224,6 @@ hash-once (Point g) p q = omega arith
 hash-once (Fraction g) p q = omega arith
 hash-once (Up n) p q = omega arith
 hash-once Stopped p q = omega arith
-
--- one byte further
-pub reading-turns : {bytes : List ℕ} {s t : State} {before behind n i f : ℕ} → Reading bytes s before behind n → n < length bytes
-    → t ≡ nextState s (getD bytes n 0) → i ≡ counted (integerHash t) 0 → f ≡ counted (fractionHash t) 0
-    → Reading bytes t (before + i) (behind + f) (n + 1)
-unfolding runState integersFrom fractionsFrom
-reading-turns {bytes} {s} {t} {before} {behind} {n} {i} {f} r h e p q =
-    let o = hash-once t p q in
-    let rest : List ℕ = drop (n + 1) bytes in
-    let left : getD bytes n 0 ∷ rest ≡ drop n bytes = sym (rw (add-one, drop-cons bytes n 0)) in
-    record {
-      inside = omega arith;
-      few = omega arith;
-      ends = ap (λ (x : State). runState x rest) e ∙ ap (runState s) left ∙ r .ends;
-      integers =
-          count-one (integerHash t) before (integersFrom t rest) i p
-          ∙ ap (λ (x : State). before + counted (integerHash x) (integersFrom x rest)) e
-          ∙ ap (λ (l : List ℕ). before + integersFrom s l) left
-          ∙ r .integers;
-      fractions =
-          count-one (fractionHash t) behind (fractionsFrom t rest) f q
-          ∙ ap (λ (x : State). behind + counted (fractionHash x) (fractionsFrom x rest)) e
-          ∙ ap (λ (l : List ℕ). behind + fractionsFrom s l) left
-          ∙ r .fractions;
-    }
-
--- behind the last byte
-pub reading-ends : {bytes : List ℕ} {scan : Scan} {n : ℕ} → Reading bytes (stateOf (scan .state)) (scan .integer) (scan .fraction) n
-    → length bytes ≤ n → Scanned bytes scan
-unfolding runState integersFrom fractionsFrom
-reading-ends {bytes} {scan} {n} r h =
-    let s = stateOf (scan .state) in
-    let none : drop n bytes ≡ [] = drop-of-length-le bytes h in
-    record {
-      ended = sym (ap (runState s) none) ∙ r .ends;
-      integers = sym (ap (λ (l : List ℕ). scan .integer + integersFrom s l) none ∙ omega arith) ∙ r .integers;
-      fractions = sym (ap (λ (l : List ℕ). scan .fraction + fractionsFrom s l) none ∙ omega arith) ∙ r .fractions;
-    }
 
 -- What the reader makes of a scan.
 

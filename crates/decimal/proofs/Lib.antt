@@ -12,5 +12,6 @@ pub mod ComparisonLaws
 pub mod ComparisonTheorem
 pub mod ImageTails
 pub mod ImageLaws
+pub mod StepLaws
 pub mod TruncationLaws
 pub mod KeptLaws

@@ -248,6 +248,15 @@ unfoldable pub fractionsFrom : State → List ℕ → ℕ
 fractionsFrom s [] = 0
 fractionsFrom s (b ∷ bs) = counted (fractionHash (nextState s b)) (fractionsFrom (nextState s b) bs)
 
+-- how many # signs bytes begin with
+unfoldable pub hashesIn : List ℕ → ℕ
+hashesIn [] = 0
+hashesIn (b ∷ bs) = pick (eqb b hashByte) (suc (hashesIn bs)) 0
+
+-- how many bytes the code reads in one step: the # signs that bytes begin with, or one byte
+unfoldable pub stepLength : List ℕ → ℕ
+stepLength bytes = pick (eqb (hashesIn bytes) 0) 1 (hashesIn bytes)
+
 -- the sign of a byte
 abbrev pub signOf : ℕ → Sign
 signOf b = pick (eqb b plusByte) Plus (pick (eqb b minusByte) Minus Unsigned)

@@ -1,5 +1,6 @@
 // Images and the state machine that reads them (document 01: Images). The scanner of print lines uses the same machine.
 ghost use mathlib.Core.Path.{_≡_};
+ghost use lib.ListN.{drop};
 ghost use Rattle.decimal.specs.Image.{
   stateOf,
   afterSign,
@@ -13,6 +14,8 @@ ghost use Rattle.decimal.specs.Image.{
   fractionHash,
   isExponential,
   counted,
+  hashesIn,
+  stepLength,
   signOf,
   checkImage,
   Scanned,
@@ -333,6 +336,29 @@ impl Image {
     }
 }
 
+// How many # signs stand from a place on.
+fn hash_run(bytes: &[u8], at: usize) -> usize
+    ensures { λ r. ⌜ r ≡ hashesIn (drop at (now (bytes .entry))) ⌝ }
+{
+    let mut end = at;
+    while end < bytes.len() {
+        let byte = bytes[end];
+        if byte != b'#' {
+            return end - at;
+        }
+        end += 1;
+    }
+    end - at
+}
+
+// How many bytes from a place on are read in one step: a run of # signs, which lead to one state, or one byte.
+fn step_length(bytes: &[u8], at: usize) -> usize
+    ensures { λ r. ⌜ r ≡ stepLength (drop at (now (bytes .entry))) ⌝ }
+{
+    let run = hash_run(bytes, at);
+    if run == 0 { 1 } else { run }
+}
+
 // What the machine has read of bytes: its last state, and the # signs that it saw.
 fn scan_bytes(bytes: &[u8]) -> Scan
     ensures { λ r. ⌜ Scanned (now (bytes .entry)) r ⌝ }
@@ -343,9 +369,10 @@ fn scan_bytes(bytes: &[u8]) -> Scan
     let mut at: usize = 0;
     while at < bytes.len() {
         state = next_state(state, bytes[at]);
-        integer += integer_hash(state);
-        fraction += fraction_hash(state);
-        at += 1;
+        let step = step_length(bytes, at);
+        integer += step * integer_hash(state);
+        fraction += step * fraction_hash(state);
+        at += step;
     }
     Scan {
         state,

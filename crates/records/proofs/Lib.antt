@@ -23,6 +23,7 @@ pub mod MeasureLaws
 pub mod DemandTheorem
 pub mod FileLaws
 pub mod FileTheorem
+pub mod ReplaceTheorem
 pub mod ReportLaws
 pub mod RecordLaws
 pub mod LinesLaws

@@ -1,4 +1,5 @@
--- Record files as laws: what add wrote, show shows and unpacking reads; adding leaves earlier records; the record count rises by one.
+-- Record files as laws: what add wrote, show shows and unpacking reads; adding leaves earlier records; the record count rises by one;
+-- a body written at the place of a record is that record's, and the other records stay.
 use Prim.Native.Nat.{ℕ, suc, _+_, _<_}
 use mathlib.Core.Path.{_≡_}
 use mathlib.Core.List.{List, [], _∷_, _++_}
@@ -42,6 +43,17 @@ pub record Adds (used : ℕ) (ns : List Number) (body before after : List ℕ) :
   pub unchanged : (r : ℕ) → r < recordCount table before → shownPart after r ≡ shownPart before r
   -- so the bodies are those that were there, then the new one
   pub in-order : bodiesIn table after ≡ bodiesIn table before ++ body ∷ []
+
+-- what writing a body at the place of record r does to a file
+pub record Replaces (table : Table) (r : ℕ) (body before after : List ℕ) : Type 0 where
+  -- the file is as long, has the same contents and as many records
+  pub length-same : length after ≡ length before
+  pub reads-after : readFile after ≡ done table
+  pub counted : recordCount table after ≡ recordCount table before
+  -- record r has the body
+  pub part : shownPart after r ≡ body
+  -- and every other record the bytes that it had
+  pub unchanged : (s : ℕ) → s < recordCount table before → (s ≡ r → ⊥) → shownPart after s ≡ shownPart before s
 
 -- what writing a contents does: a file without records
 pub record Starts (bytes : List ℕ) : Type 0 where

@@ -5,7 +5,7 @@ use mathlib.Core.Path.{refl}
 use native.Mathlib.Omega.{arith}
 use lib.ListN.{length}
 use Rattle.decimal.specs.Image.{stateOf}
-use Rattle.decimal.proofs.ImageLaws.{Reading, reading-starts, reading-turns, reading-ends, hash-once}
+use Rattle.decimal.proofs.StepLaws.{Reading, reading-starts, reading-steps, reading-ends, step-some, step-few}
 use Rattle.decimal.proofs.image.scan_bytes.Statement.{statement}
 use Rattle.decimal.proofs.image.scan_bytes.Tie as tie
 
@@ -24,29 +24,64 @@ shared-slice-read-next-state c = omega arith
 next-state-requires : tie.Need-next-state-requires Inv-loop μ-loop
 next-state-requires c κs = tt
 
+step-length-requires : tie.Need-step-length-requires Inv-loop μ-loop
+step-length-requires c κs = tt
+
 integer-hash-requires : tie.Need-integer-hash-requires Inv-loop μ-loop
 integer-hash-requires c κs = tt
 
+mul-integer : tie.Need-mul-integer Inv-loop μ-loop
+mul-integer c =
+    let s = c .before in
+    let l = s .before .before .before in
+    let few = step-few (l .before .loop .inv) (l .loop-test .taken) (s .before .next-state .ensures) (s .step-length .ensures) (c .integer-hash .ensures) refl in
+    omega arith
+
 add-integer : tie.Need-add-integer Inv-loop μ-loop
-add-integer c = omega (arith, hash-once (stateOf (c .before .next-state .result)) (c .integer-hash .ensures) refl)
+add-integer c =
+    let s = c .before in
+    let l = s .before .before .before in
+    let next = reading-steps (l .before .loop .inv) (l .loop-test .taken) (s .before .next-state .ensures) (s .step-length .ensures) (c .integer-hash .ensures) refl in
+    omega (arith, next .few, next .inside)
 
 fraction-hash-requires : tie.Need-fraction-hash-requires Inv-loop μ-loop
 fraction-hash-requires c κs = tt
 
+mul-fraction : tie.Need-mul-fraction Inv-loop μ-loop
+mul-fraction c =
+    let s = c .before .before in
+    let l = s .before .before .before in
+    let few = step-few (l .before .loop .inv) (l .loop-test .taken) (s .before .next-state .ensures) (s .step-length .ensures) (c .before .integer-hash .ensures) (c .fraction-hash .ensures) in
+    omega arith
+
 add-fraction : tie.Need-add-fraction Inv-loop μ-loop
-add-fraction c = omega (arith, hash-once (stateOf (c .before .before .next-state .result)) (c .before .integer-hash .ensures) (c .fraction-hash .ensures))
+add-fraction c =
+    let s = c .before .before in
+    let l = s .before .before .before in
+    let next = reading-steps (l .before .loop .inv) (l .loop-test .taken) (s .before .next-state .ensures) (s .step-length .ensures) (c .before .integer-hash .ensures) (c .fraction-hash .ensures) in
+    omega (arith, next .few, next .inside)
 
 add-at : tie.Need-add-at Inv-loop μ-loop
-add-at c = omega arith
+add-at c =
+    let s = c .before .before in
+    let l = s .before .before .before in
+    let next = reading-steps (l .before .loop .inv) (l .loop-test .taken) (s .before .next-state .ensures) (s .step-length .ensures) (c .before .integer-hash .ensures) (c .fraction-hash .ensures) in
+    omega (arith, next .inside)
 
 loop-less : tie.Need-loop-less Inv-loop μ-loop
-loop-less c = omega arith
+loop-less c =
+    let s = c .before .before in
+    let l = s .before .before .before in
+    omega (
+      arith,
+      step-some (l .before .loop .inv) (l .loop-test .taken) (s .before .next-state .ensures) (s .step-length .ensures) (c .before .integer-hash .ensures) (c .fraction-hash .ensures),
+    )
 
 loop-again : tie.Need-loop-again Inv-loop μ-loop
 loop-again c =
-    let l = c .before .before .before .before in
-    reading-turns (l .before .loop .inv) (l .loop-test .taken) (c .before .before .next-state .ensures) (c .before .integer-hash .ensures)
-    (c .fraction-hash .ensures)
+    let s = c .before .before in
+    let l = s .before .before .before in
+    reading-steps (l .before .loop .inv) (l .loop-test .taken) (s .before .next-state .ensures) (s .step-length .ensures) (c .before .integer-hash .ensures) (c .fraction-hash .ensures)
 
 returns : tie.Need-returns Inv-loop μ-loop
 returns c = reading-ends (c .before .loop .inv) (c .loop-test .left)
@@ -60,9 +95,12 @@ scan-bytes-spec =
     loop-holds
     shared-slice-read-next-state
     next-state-requires
+    step-length-requires
     integer-hash-requires
+    mul-integer
     add-integer
     fraction-hash-requires
+    mul-fraction
     add-fraction
     add-at
     loop-less
