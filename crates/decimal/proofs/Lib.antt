@@ -10,6 +10,7 @@ pub mod NumberLaws
 pub mod MagnitudeLaws
 pub mod ComparisonLaws
 pub mod ComparisonTheorem
+pub mod StateLaws
 pub mod ImageTails
 pub mod ImageLaws
 pub mod StepLaws

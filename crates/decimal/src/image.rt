@@ -111,19 +111,7 @@ fn after_sign(state: State) -> State
 {
     match state {
         State::Start => State::Signed,
-        State::Signed => State::Stopped,
-        State::Integer => State::Stopped,
-        State::Grouped => State::Stopped,
-        State::Comma => State::Stopped,
-        State::Point => State::Stopped,
-        State::GroupedPoint => State::Stopped,
-        State::Fraction => State::Stopped,
-        State::GroupedFraction => State::Stopped,
-        State::FirstUp => State::Stopped,
-        State::SecondUp => State::Stopped,
-        State::ThirdUp => State::Stopped,
-        State::Exponential => State::Stopped,
-        State::Stopped => State::Stopped,
+        _ => State::Stopped,
     }
 }
 
@@ -132,20 +120,11 @@ fn after_hash(state: State) -> State
     ensures { λ r. ⌜ stateOf r ≡ afterHash (stateOf state) ⌝ }
 {
     match state {
-        State::Start => State::Integer,
-        State::Signed => State::Integer,
-        State::Integer => State::Integer,
-        State::Grouped => State::Grouped,
-        State::Comma => State::Grouped,
-        State::Point => State::Fraction,
-        State::GroupedPoint => State::GroupedFraction,
-        State::Fraction => State::Fraction,
-        State::GroupedFraction => State::GroupedFraction,
-        State::FirstUp => State::Stopped,
-        State::SecondUp => State::Stopped,
-        State::ThirdUp => State::Stopped,
-        State::Exponential => State::Stopped,
-        State::Stopped => State::Stopped,
+        State::Start | State::Signed | State::Integer => State::Integer,
+        State::Grouped | State::Comma => State::Grouped,
+        State::Point | State::Fraction => State::Fraction,
+        State::GroupedPoint | State::GroupedFraction => State::GroupedFraction,
+        _ => State::Stopped,
     }
 }
 
@@ -154,20 +133,9 @@ fn after_point(state: State) -> State
     ensures { λ r. ⌜ stateOf r ≡ afterPoint (stateOf state) ⌝ }
 {
     match state {
-        State::Start => State::Point,
-        State::Signed => State::Point,
-        State::Integer => State::Point,
+        State::Start | State::Signed | State::Integer => State::Point,
         State::Grouped => State::GroupedPoint,
-        State::Comma => State::Stopped,
-        State::Point => State::Stopped,
-        State::GroupedPoint => State::Stopped,
-        State::Fraction => State::Stopped,
-        State::GroupedFraction => State::Stopped,
-        State::FirstUp => State::Stopped,
-        State::SecondUp => State::Stopped,
-        State::ThirdUp => State::Stopped,
-        State::Exponential => State::Stopped,
-        State::Stopped => State::Stopped,
+        _ => State::Stopped,
     }
 }
 
@@ -176,20 +144,8 @@ fn after_comma(state: State) -> State
     ensures { λ r. ⌜ stateOf r ≡ afterComma (stateOf state) ⌝ }
 {
     match state {
-        State::Start => State::Stopped,
-        State::Signed => State::Stopped,
-        State::Integer => State::Comma,
-        State::Grouped => State::Comma,
-        State::Comma => State::Stopped,
-        State::Point => State::Stopped,
-        State::GroupedPoint => State::Stopped,
-        State::Fraction => State::Stopped,
-        State::GroupedFraction => State::Stopped,
-        State::FirstUp => State::Stopped,
-        State::SecondUp => State::Stopped,
-        State::ThirdUp => State::Stopped,
-        State::Exponential => State::Stopped,
-        State::Stopped => State::Stopped,
+        State::Integer | State::Grouped => State::Comma,
+        _ => State::Stopped,
     }
 }
 
@@ -198,20 +154,11 @@ fn after_up(state: State) -> State
     ensures { λ r. ⌜ stateOf r ≡ afterUp (stateOf state) ⌝ }
 {
     match state {
-        State::Start => State::Stopped,
-        State::Signed => State::Stopped,
-        State::Integer => State::FirstUp,
-        State::Grouped => State::Stopped,
-        State::Comma => State::Stopped,
-        State::Point => State::Stopped,
-        State::GroupedPoint => State::Stopped,
-        State::Fraction => State::FirstUp,
-        State::GroupedFraction => State::Stopped,
+        State::Integer | State::Fraction => State::FirstUp,
         State::FirstUp => State::SecondUp,
         State::SecondUp => State::ThirdUp,
         State::ThirdUp => State::Exponential,
-        State::Exponential => State::Stopped,
-        State::Stopped => State::Stopped,
+        _ => State::Stopped,
     }
 }
 
@@ -220,20 +167,8 @@ fn is_image(state: State) -> bool
     ensures { λ r. ⌜ r ≡ isImage (stateOf state) ⌝ }
 {
     match state {
-        State::Start => false,
-        State::Signed => false,
-        State::Integer => true,
-        State::Grouped => false,
-        State::Comma => false,
-        State::Point => false,
-        State::GroupedPoint => false,
-        State::Fraction => true,
-        State::GroupedFraction => false,
-        State::FirstUp => false,
-        State::SecondUp => false,
-        State::ThirdUp => false,
-        State::Exponential => true,
-        State::Stopped => false,
+        State::Integer | State::Fraction | State::Exponential => true,
+        _ => false,
     }
 }
 
@@ -242,20 +177,8 @@ pub fn integer_hash(state: State) -> usize
     ensures { λ r. ⌜ r ≡ counted (integerHash (stateOf state)) 0 ⌝ }
 {
     match state {
-        State::Start => 0,
-        State::Signed => 0,
-        State::Integer => 1,
-        State::Grouped => 1,
-        State::Comma => 0,
-        State::Point => 0,
-        State::GroupedPoint => 0,
-        State::Fraction => 0,
-        State::GroupedFraction => 0,
-        State::FirstUp => 0,
-        State::SecondUp => 0,
-        State::ThirdUp => 0,
-        State::Exponential => 0,
-        State::Stopped => 0,
+        State::Integer | State::Grouped => 1,
+        _ => 0,
     }
 }
 
@@ -264,20 +187,8 @@ pub fn fraction_hash(state: State) -> usize
     ensures { λ r. ⌜ r ≡ counted (fractionHash (stateOf state)) 0 ⌝ }
 {
     match state {
-        State::Start => 0,
-        State::Signed => 0,
-        State::Integer => 0,
-        State::Grouped => 0,
-        State::Comma => 0,
-        State::Point => 0,
-        State::GroupedPoint => 0,
-        State::Fraction => 1,
-        State::GroupedFraction => 1,
-        State::FirstUp => 0,
-        State::SecondUp => 0,
-        State::ThirdUp => 0,
-        State::Exponential => 0,
-        State::Stopped => 0,
+        State::Fraction | State::GroupedFraction => 1,
+        _ => 0,
     }
 }
 
@@ -286,20 +197,8 @@ pub fn is_exponential(state: State) -> bool
     ensures { λ r. ⌜ r ≡ isExponential (stateOf state) ⌝ }
 {
     match state {
-        State::Start => false,
-        State::Signed => false,
-        State::Integer => false,
-        State::Grouped => false,
-        State::Comma => false,
-        State::Point => false,
-        State::GroupedPoint => false,
-        State::Fraction => false,
-        State::GroupedFraction => false,
-        State::FirstUp => true,
-        State::SecondUp => true,
-        State::ThirdUp => true,
-        State::Exponential => true,
-        State::Stopped => false,
+        State::FirstUp | State::SecondUp | State::ThirdUp | State::Exponential => true,
+        _ => false,
     }
 }
 

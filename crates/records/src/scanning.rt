@@ -14,20 +14,12 @@ fn is_field(state: State) -> bool
     ensures { λ r. ⌜ r ≡ isField (stateOf state) ⌝ }
 {
     match state {
-        State::Start => false,
-        State::Signed => false,
-        State::Integer => true,
-        State::Grouped => true,
-        State::Comma => false,
-        State::Point => false,
-        State::GroupedPoint => false,
-        State::Fraction => true,
-        State::GroupedFraction => true,
-        State::FirstUp => false,
-        State::SecondUp => false,
-        State::ThirdUp => false,
-        State::Exponential => true,
-        State::Stopped => false,
+        State::Integer
+        | State::Grouped
+        | State::Fraction
+        | State::GroupedFraction
+        | State::Exponential => true,
+        _ => false,
     }
 }
 
@@ -36,20 +28,8 @@ fn is_stopped(state: State) -> bool
     ensures { λ r. ⌜ r ≡ isStopped (stateOf state) ⌝ }
 {
     match state {
-        State::Start => false,
-        State::Signed => false,
-        State::Integer => false,
-        State::Grouped => false,
-        State::Comma => false,
-        State::Point => false,
-        State::GroupedPoint => false,
-        State::Fraction => false,
-        State::GroupedFraction => false,
-        State::FirstUp => false,
-        State::SecondUp => false,
-        State::ThirdUp => false,
-        State::Exponential => false,
         State::Stopped => true,
+        _ => false,
     }
 }
 
