@@ -8,6 +8,8 @@ pub mod Table
 pub mod ScaleLaws
 pub mod NumberLaws
 pub mod MagnitudeLaws
+pub mod PartsLaws
+pub mod ConstructorTheorem
 pub mod ComparisonLaws
 pub mod ComparisonTheorem
 pub mod StateLaws

@@ -1,17 +1,17 @@
--- What a number means: a magnitude and a sign are those of one normal number, and the constructors give exactly the number meant.
+-- What a number means: a magnitude and a sign are those of one normal number, and the scaled number has the magnitude meant.
 -- Assumes nothing.
 use Prim.Native.Nat.{ℕ, suc, _+_, _-_, _*_, _^_, _≤_, _<_}
 use mathlib.Core.Path.{_≡_, refl, ap, sym, _∙_}
 use mathlib.Core.Bool.{Bool, true, false}
 use mathlib.Core.Logic.{_⊎_, inl, inr, ⊎-elim}
 use native.Mathlib.Omega.{arith}
-use native.Mathlib.Nat.{mul-assoc, mul-comm, mul-one, zero-mul, one-le-mul, mul-le-mul, mul-le-mul-right, mul-lt-mul-of-pos-right, le-antisymm, eq-of-mul-eq-mul-left}
+use native.Mathlib.Nat.{mul-assoc, mul-comm, zero-mul, one-le-mul, mul-le-mul, mul-le-mul-right, mul-lt-mul-of-pos-right, le-antisymm, eq-of-mul-eq-mul-left}
 use Rattle.decimal.specs.declared.number.Number.{Number}
 use Rattle.decimal.specs.Answer.{Answer, done, refused}
 use Rattle.decimal.specs.Digits.{precision, leadingZeros}
-use Rattle.decimal.specs.Number.{exponentLimit, zeroNumber, largestNumber, normal, magnitude, unit, scaledNumber, stepsNumber}
+use Rattle.decimal.specs.Number.{exponentLimit, zeroNumber, largestNumber, normal, magnitude, unit, scaledNumber}
 use Rattle.decimal.proofs.PowerLaws.{pow10-pos, pow10-add, pow10-mono, times-power}
-use Rattle.decimal.proofs.DigitLaws.{le-or-lt, leading-low, leading-top, leading-at-most}
+use Rattle.decimal.proofs.DigitLaws.{le-or-lt, leading-low, leading-top}
 use Rattle.decimal.proofs.NumberLaws.{InRange, normal-cases, range-normal, zero-normal, number-path, scaled-too-long, scaled-zero, scaled-shifted, shifted-below, shifted-above, shifted-done}
 
 -- The arithmetic, over the width: a mantissa has suc p digits.
@@ -259,20 +259,6 @@ module _ (place : ℕ) (negative : Bool) (whole up down : ℕ) where
         shifted-given (record { positive = positive; fits = fits; room = left .0; top = rw (left .1) (r .top) })
         ∙ ap done (number-path refl (sym (parts .0)) (left .1))
 
-  -- the normal number with the magnitude and the sign asked for is given
-  pub scaled-exact :
-      (n : Number)
-      → normal n ≡ true
-      → n .negative ≡ negative
-      → whole < 10 ^ precision
-      → magnitude n * 10 ^ down ≡ whole * 10 ^ up * unit
-      → scaledNumber place negative whole up down ≡ done n
-  scaled-exact n h sign fits means =
-      ⊎-elim
-      (λ e. meant-zero n fits means e ∙ ap done (sym e))
-      (λ r. meant-range n fits means r ∙ ap done (number-path (sym sign) refl refl))
-      (normal-cases n h)
-
   -- where 5 is answered, no normal number has the magnitude
   pub scaled-refused-five :
       whole < 10 ^ precision
@@ -286,30 +272,3 @@ module _ (place : ℕ) (negative : Bool) (whole up down : ℕ) where
       (λ e. not-both answer (meant-zero n fits means e))
       (λ r. not-both answer (meant-range n fits means r))
       (normal-cases n h)
-
--- a whole count of steps is given as the normal number of that magnitude
-pub steps-exact :
-    (steps : ℕ)
-    → steps < 10 ^ precision
-    → (n : Number) × (stepsNumber steps ≡ done n) × (normal n ≡ true) × (magnitude n ≡ steps * unit)
-steps-exact steps fits =
-    ⊎-elim
-    (λ none. answer (scaled-zero 0 false steps 0 0 (omega arith)))
-    (λ some. answer (shifted-given 0 false steps 0 0 (within some)))
-    (le-or-lt steps 0)
-  where
-    answer :
-        {n : Number}
-        → stepsNumber steps ≡ done n
-        → (n : Number) × (stepsNumber steps ≡ done n) × (normal n ≡ true) × (magnitude n ≡ steps * unit)
-    answer {n} given = (
-      n,
-      given,
-      scaled-normal 0 false steps 0 0 given,
-      sym (mul-one (magnitude n)) ∙ scaled-magnitude 0 false steps 0 0 given ∙ ap (λ (q : ℕ). q * unit) (mul-one steps),
-    )
-
-    within : 0 < steps → Shifted 0 false steps 0 0
-    within some =
-        let most = leading-at-most precision steps in
-        record { positive = some; fits = fits; room = omega arith; top = omega arith }

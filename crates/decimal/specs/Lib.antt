@@ -1,7 +1,9 @@
 pub mod Answer
 pub mod Digits
 pub mod Number
+pub mod Constructors
 pub mod Comparison
 pub mod Image
 pub mod Truncation
 pub mod Known
+pub mod KnownNumbers

@@ -2,6 +2,7 @@
 use Prim.Native.Nat.{ℕ, _+_, _-_, _*_, _^_}
 use mathlib.Core.Bool.{Bool, true, false, not, _&&_}
 use lib.Dec.{ltb, leb, eqb}
+use lib.IntN.{ℤ, pos, negsuc, _+ℤ_, _-ℤ_}
 use Rattle.decimal.specs.declared.number.Number.{Number}
 use Rattle.decimal.specs.declared.number.Shifted.{Shifted}
 use Rattle.decimal.specs.declared.number.NumberAnswer.{NumberAnswer}
@@ -32,6 +33,10 @@ normal n =
 unfoldable pub magnitude : Number → ℕ
 magnitude n = n .mantissa * 10 ^ n .exponent
 
+-- document 01's exponent e of a number
+abbrev pub exponentOf : Number → ℤ
+exponentOf n = pos (n .exponent) -ℤ pos exponentLimit
+
 -- one, in those units
 abbrev pub unit : ℕ
 unit = 10 ^ (exponentLimit + (precision - 1))
@@ -44,6 +49,15 @@ checkNumber place n = pick (normal n) (done n) (refused 3 place)
 abbrev pub newNumber : ℕ → Bool → ℕ → ℕ → Answer Number
 newNumber place negative mantissa exponent =
     checkNumber place (record { negative = negative; mantissa = mantissa; exponent = exponent })
+
+-- the number of a sign, a mantissa and an integer e + exponentLimit: 3 where that is below zero, since then e is below −exponentLimit
+abbrev pub heldNumber : ℕ → Bool → ℕ → ℤ → Answer Number
+heldNumber place negative mantissa (pos held) = newNumber place negative mantissa held
+heldNumber place negative mantissa (negsuc k) = refused 3 place
+
+-- the number of a sign, a mantissa and document 01's exponent e, any integer; 3 where e is outside −99 to 99 or that is not normal
+unfoldable pub partsNumber : ℕ → Bool → ℕ → ℤ → Answer Number
+partsNumber place negative mantissa e = heldNumber place negative mantissa (e +ℤ pos exponentLimit)
 
 -- the number with m = whole × 10^zeros and the exponent e = up − down + 12 − zeros, 5 where e is outside its limits
 unfoldable pub shiftedNumber : ℕ → Bool → ℕ → ℕ → ℕ → ℕ → Answer Number
@@ -59,7 +73,8 @@ shiftedNumber place negative whole up down zeros =
       exponent = exponentLimit + (precision - 1) + up - (down + zeros);
     })))
 
--- the normal number with the magnitude whole × 10^up / 10^down: 3 where whole has over 13 digits, then zero, then 5 where e is outside
+-- the normal number with the magnitude whole × 10^up / 10^down: 3 where whole has over 13 digits, then zero, then 5 where e is outside.
+-- For 3 the digits of whole are counted, zeros at its end too: 10^13 is refused, although 1 with up = 13 gives the number of that magnitude
 unfoldable pub scaledNumber : ℕ → Bool → ℕ → ℕ → ℕ → Answer Number
 scaledNumber place negative whole up down =
     pick (leb (10 ^ precision) whole)
@@ -68,7 +83,7 @@ scaledNumber place negative whole up down =
     (done zeroNumber)
     (shiftedNumber place negative whole up down (leadingZeros precision whole)))
 
--- the number of a whole count of wheel steps
+-- the number of a whole count of wheel steps: 3 for 10^13 and above, also where a normal number has that magnitude, as for 10^13 itself
 abbrev pub stepsNumber : ℕ → Answer Number
 stepsNumber steps = scaledNumber 0 false steps 0 0
 

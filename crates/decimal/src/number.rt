@@ -3,13 +3,19 @@ ghost use mathlib.Core.Path.{_≡_};
 ghost use Prim.Native.Nat.{_*_, _^_, _<_, _≤_};
 ghost use Rattle.decimal.specs.Digits.{precision, leadingZeros};
 ghost use Rattle.decimal.specs.Answer.{Answer};
-ghost use Rattle.decimal.specs.Number.{zeroNumber, largestNumber, normal, newNumber, scaledNumber, shiftPast, stepsNumber, numberMeaning};
+ghost use Rattle.decimal.specs.Number.{zeroNumber, largestNumber, normal, newNumber, partsNumber, scaledNumber, shiftPast, stepsNumber, numberMeaning};
 use crate::digits::PRECISION;
 use crate::powers::power_of_ten;
 use crate::refusal::Refusal;
 
 // The largest decimal exponent; the smallest is its negative.
 pub const EXPONENT_LIMIT: usize = 99;
+
+// The largest decimal exponent, signed.
+const EXPONENT_HIGH: i64 = EXPONENT_LIMIT as i64;
+
+// The smallest decimal exponent.
+const EXPONENT_LOW: i64 = -EXPONENT_HIGH;
 
 // The largest value that the field exponent of a normal number holds.
 pub(crate) const EXPONENT_TOP: usize = 2 * EXPONENT_LIMIT;
@@ -113,8 +119,26 @@ impl Number {
         }
     }
 
+    // The number of a sign, a mantissa and document 01's exponent e, any value of it; refused with 3 where that is not normal.
+    pub fn from_parts(negative: bool, mantissa: u64, exponent: i64, place: usize) -> NumberAnswer
+        ensures { λ r. ⌜ numberMeaning r ≡ partsNumber place negative mantissa exponent ⌝ }
+    {
+        if exponent < EXPONENT_LOW {
+            return refused(NOT_NORMAL, place);
+        }
+        if EXPONENT_HIGH < exponent {
+            return refused(NOT_NORMAL, place);
+        }
+        Number::new(
+            negative,
+            mantissa,
+            (exponent + EXPONENT_HIGH) as usize,
+            place,
+        )
+    }
+
     // The number with the magnitude whole * 10^up / 10^down, in normal form; zero is plus whatever the sign.
-    // Refused with 3 where whole has more than PRECISION digits, with 5 where e is outside its limits.
+    // Refused with 3 where whole has more than PRECISION digits, zeros at its end too, with 5 where e is outside its limits.
     pub fn from_scaled(negative: bool, whole: u64, up: u16, down: u16, place: usize) -> NumberAnswer
         ensures { λ r. ⌜ numberMeaning r ≡ scaledNumber place negative whole up down ⌝ }
     {
@@ -140,7 +164,7 @@ impl Number {
         })
     }
 
-    // The number of a whole count of wheel steps, exact below 10^PRECISION; a larger count is refused with 3.
+    // The number of a whole count of wheel steps, exact below 10^PRECISION; any other count is refused with 3.
     pub fn from_steps(steps: u64) -> NumberAnswer
         ensures { λ r. ⌜ numberMeaning r ≡ stepsNumber steps ⌝ }
     {
