@@ -33,7 +33,7 @@ use Rattle.codec.proofs.FitLaws.{truncation-held, truncation-held-by}
 use Rattle.codec.proofs.BufferLaws.{written-pasted, written-none, written-stored, written-length, written-next}
 use Rattle.codec.specs.Columns.{signCount}
 use Rattle.codec.specs.Packing.{exponentSize, heldBy, Held}
-use Rattle.codec.specs.Alpha.{blankByte, zeroByte, exponentByte, digitBytes, signText, fractionText, exponentText, alphaText, alphaUnder, alphaOf, convertingUnder, converting, zeroAt, fractionLength, exponentLength, tailLength, textLength}
+use Rattle.codec.specs.Alpha.{blankByte, zeroByte, exponentByte, digitBytes, signText, fractionText, exponentText, alphaText, alphaUnder, alphaOf, writingAlphaUnder, writingAlpha, zeroAt, fractionLength, exponentLength, tailLength, textLength}
 
 -- Lengths.
 
@@ -479,19 +479,19 @@ module _ (im : Image) (n : Number) where
 
   module _ (room : ℕ) where
     -- a number that has no text is refused as that says
-    pub converting-under-refused : {number place : ℕ} → alphaUnder im n ≡ refused number place → convertingUnder im n room ≡ refused number place
-    unfolding convertingUnder _then_
-    converting-under-refused h = rw h
+    pub writing-under-refused : {number place : ℕ} → alphaUnder im n ≡ refused number place → writingAlphaUnder im n room ≡ refused number place
+    unfolding writingAlphaUnder _then_
+    writing-under-refused h = rw h
 
     -- a text that is too long is refused with 6
-    pub converting-under-long : {text : List ℕ} → alphaUnder im n ≡ done text → room < length text → convertingUnder im n room ≡ refused 6 0
-    unfolding convertingUnder _then_ within
-    converting-under-long {text} h long = rw (h, lt-ltb room (length text) long)
+    pub writing-under-long : {text : List ℕ} → alphaUnder im n ≡ done text → room < length text → writingAlphaUnder im n room ≡ refused 6 0
+    unfolding writingAlphaUnder _then_ within
+    writing-under-long {text} h long = rw (h, lt-ltb room (length text) long)
 
     -- any other is written
-    pub converting-under-done : {text : List ℕ} → alphaUnder im n ≡ done text → length text ≤ room → convertingUnder im n room ≡ done text
-    unfolding convertingUnder _then_ within
-    converting-under-done {text} h fits = rw (h, le-ltb room (length text) fits)
+    pub writing-under-done : {text : List ℕ} → alphaUnder im n ≡ done text → length text ≤ room → writingAlphaUnder im n room ≡ done text
+    unfolding writingAlphaUnder _then_ within
+    writing-under-done {text} h fits = rw (h, le-ltb room (length text) fits)
 
 module _ (bytes : List ℕ) (n : Number) where
   -- 1 and 2 come first
@@ -506,9 +506,9 @@ module _ (bytes : List ℕ) (n : Number) where
     alpha-read = rw read
 
     -- so is the call's
-    pub converting-read : (room : ℕ) → converting bytes n room ≡ convertingUnder im n room
-    unfolding converting convertingUnder
-    converting-read room = ap (λ (a : Answer (List ℕ)). a then within room) alpha-read
+    pub writing-read : (room : ℕ) → writingAlpha bytes n room ≡ writingAlphaUnder im n room
+    unfolding writingAlpha writingAlphaUnder
+    writing-read room = ap (λ (a : Answer (List ℕ)). a then within room) alpha-read
 
     -- a number that the image can truncate has a text
     pub alpha-done : {t : Truncated} → truncation 0 im n ≡ done t → alphaOf bytes n ≡ done (alphaText im t)
@@ -524,11 +524,11 @@ module _ (bytes : List ℕ) (n : Number) where
 
   module _ (room : ℕ) where
     -- a number that has no text is refused as that says
-    pub converting-refused : {number place : ℕ} → alphaOf bytes n ≡ refused number place → converting bytes n room ≡ refused number place
-    unfolding converting _then_
-    converting-refused h = rw h
+    pub writing-refused : {number place : ℕ} → alphaOf bytes n ≡ refused number place → writingAlpha bytes n room ≡ refused number place
+    unfolding writingAlpha _then_
+    writing-refused h = rw h
 
     -- a text for which there is room is written
-    pub converting-done : {text : List ℕ} → alphaOf bytes n ≡ done text → length text ≤ room → converting bytes n room ≡ done text
-    unfolding converting _then_ within
-    converting-done {text} h fits = rw (h, le-ltb room (length text) fits)
+    pub writing-done : {text : List ℕ} → alphaOf bytes n ≡ done text → length text ≤ room → writingAlpha bytes n room ≡ done text
+    unfolding writingAlpha _then_ within
+    writing-done {text} h fits = rw (h, le-ltb room (length text) fits)

@@ -60,7 +60,7 @@ use Rattle.codec.specs.Text.{
   legalLength,
   convertText,
   heldDigits,
-  Held,
+  DigitsFit,
   behindValue,
   RunFound,
   FractionFound,
@@ -177,11 +177,11 @@ no-sign b p m = rw (ne-eqb b plusByte p, ne-eqb b minusByte m)
 -- Values that are held.
 
 -- a value with one digit more, where that is foreseen, is below the limit
-pub held-fits : (value most : ℕ) → Held value (suc most) → value * 10 + 9 < 10 ^ heldDigits
+pub held-fits : (value most : ℕ) → DigitsFit value (suc most) → value * 10 + 9 < 10 ^ heldDigits
 held-fits value most h = omega (arith, times-ten (value + 1) most, times-power (value + 1) most)
 
 -- the value with a digit more is held with one digit less to come
-pub held-more : (value digit most : ℕ) → digit < 10 → Held value (suc most) → Held (value * 10 + digit) most
+pub held-more : (value digit most : ℕ) → digit < 10 → DigitsFit value (suc most) → DigitsFit (value * 10 + digit) most
 held-more value digit most d h =
     let top = mul-le-mul-right {m = value * 10 + digit + 1} {n = (value + 1) * 10} (10 ^ most) (omega arith) in
     omega (arith, times-ten (value + 1) most, mul-assoc (value + 1) 10 (10 ^ most), mul-comm 10 (10 ^ most), pow10-suc most)
@@ -198,12 +198,12 @@ behind-more value digit ds =
 pub record Running (text : List ℕ) (place most start value count : ℕ) : Type 0 where
   pub few : count ≤ most
   pub inside : place + count ≤ length text
-  pub held : Held value (most - count)
+  pub held : DigitsFit value (most - count)
   pub counts : count + length (digitsIn (most - count) (drop (place + count) text)) ≡ length (digitsIn most (drop place text))
   pub values : behindValue value (digitsIn (most - count) (drop (place + count) text)) ≡ behindValue start (digitsIn most (drop place text))
 
 -- before the first digit
-pub running-starts : (text : List ℕ) (place most start : ℕ) → place ≤ length text → Held start most → Running text place most start start 0
+pub running-starts : (text : List ℕ) (place most start : ℕ) → place ≤ length text → DigitsFit start most → Running text place most start start 0
 running-starts text place most start h held =
     let all : most - 0 ≡ most = omega arith in
     let here : place + 0 ≡ place = omega arith in
@@ -229,7 +229,7 @@ running-turns {text} {place} {most} {start} {value} {count} r more there digit =
     ap (λ (n : ℕ). digitsIn n (drop (place + count) text)) left
     ∙ digits-more text (place + count) (most - (count + 1)) there digit
     ∙ ap (λ (p : ℕ). (b - zeroByte) ∷ digitsIn (most - (count + 1)) (drop p text)) next in
-    let held : Held value (suc (most - (count + 1))) = rw left at (r .held) in
+    let held : DigitsFit value (suc (most - (count + 1))) = rw left at (r .held) in
     let lengths : length (digitsIn (most - count) (drop (place + count) text)) ≡ suc (length ds) = ap length step in
     let valued : behindValue value (digitsIn (most - count) (drop (place + count) text)) ≡ behindValue (value * 10 + (b - zeroByte)) ds =
     ap (behindValue value) step ∙ behind-more value (b - zeroByte) ds in
@@ -379,7 +379,7 @@ run-below {bytes} {most} {value} {count} r =
     omega (arith, power, r .valued, value-below (digitsIn most bytes) (digits-in-digits most bytes))
 
 -- the digits behind the point are held too
-pub run-held : {bytes : List ℕ} {value count : ℕ} → RunFound bytes precision 0 value count → Held value (precision - count)
+pub run-held : {bytes : List ℕ} {value count : ℕ} → RunFound bytes precision 0 value count → DigitsFit value (precision - count)
 run-held {bytes} {value} {count} r =
     let few = run-few r .0 in
     let low : value + 1 ≤ 10 ^ count = omega (arith, run-below r) in

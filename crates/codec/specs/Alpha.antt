@@ -77,12 +77,12 @@ parted (t ∷ []) = t
 parted (t ∷ (u ∷ us)) = t ++ (blankByte ∷ parted (u ∷ us))
 
 -- the call under an image, into a buffer with so much room: last 6
-unfoldable pub convertingUnder : Image → Number → ℕ → Answer (List ℕ)
-convertingUnder im n room = alphaUnder im n then within room
+unfoldable pub writingAlphaUnder : Image → Number → ℕ → Answer (List ℕ)
+writingAlphaUnder im n room = alphaUnder im n then within room
 
 -- the alpha call, into a buffer with so much room: last 6
-unfoldable pub converting : List ℕ → Number → ℕ → Answer (List ℕ)
-converting image n room = alphaOf image n then within room
+unfoldable pub writingAlpha : List ℕ → Number → ℕ → Answer (List ℕ)
+writingAlpha image n room = alphaOf image n then within room
 
 -- What the code's helpers ask and find.
 

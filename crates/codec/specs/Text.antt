@@ -212,9 +212,9 @@ readTexts (text ∷ texts) = convertText text then λ t. (readTexts texts then �
 abbrev pub heldDigits : ℕ
 heldDigits = 18
 
--- a value and so many digits behind it are held
-abbrev pub Held : ℕ → ℕ → Type 0
-Held start most = (start + 1) * 10 ^ most ≤ 10 ^ heldDigits
+-- a value and so many digits behind it fit the code's 64 bits
+abbrev pub DigitsFit : ℕ → ℕ → Type 0
+DigitsFit start most = (start + 1) * 10 ^ most ≤ 10 ^ heldDigits
 
 -- the value of digits that stand behind a value
 abbrev pub behindValue : ℕ → List ℕ → ℕ

@@ -16,8 +16,8 @@ use Rattle.decimal.specs.Image.{hashes}
 use Rattle.decimal.specs.Truncation.{Truncated, numberOf}
 use Rattle.codec.specs.declared.unpacking.Unpacked.{Unpacked}
 use Rattle.codec.specs.Lists.{filled, anyOf, maxColumns}
-use Rattle.codec.specs.declared.unpacking.Run.{Run}
-use Rattle.codec.specs.declared.unpacking.Run.the-variants as run
+use Rattle.codec.specs.declared.unpacking.ColumnRun.{ColumnRun}
+use Rattle.codec.specs.declared.unpacking.ColumnRun.the-variants as run
 use Rattle.codec.specs.Columns.{signCount, exponentCount, halfCount, padCount, columnSize, bodySize}
 use Rattle.codec.specs.Contents.{readAlone, checkImages}
 use Rattle.codec.specs.Halves.{halvesOf}
@@ -140,7 +140,7 @@ readOn start [] = done start
 readOn start (d ∷ ds) = pick (ltb d 10) (readOn (start * 10 + d) ds) (refused 7 0)
 
 -- each case of the code's run of digits
-abbrev pub runMeaning : Run → Answer ℕ
+abbrev pub runMeaning : ColumnRun → Answer ℕ
 runMeaning (run.Value value) = done value
 runMeaning run.Bad = refused 7 0
 

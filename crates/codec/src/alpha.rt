@@ -10,7 +10,7 @@ ghost use Rattle.decimal.specs.Number.{exponentLimit};
 ghost use Rattle.decimal.specs.Image.{plusByte, minusByte, hashes};
 ghost use Rattle.codec.specs.Answers.{storedIn, sized, writeMeaning, written};
 ghost use Rattle.codec.specs.Columns.{signCount};
-ghost use Rattle.codec.specs.Alpha.{zeroByte, digitBytes, signText, fractionText, exponentText, alphaText, convertingUnder, converting, fractionLength, exponentLength, textLength, zeroAt};
+ghost use Rattle.codec.specs.Alpha.{zeroByte, digitBytes, signText, fractionText, exponentText, alphaText, writingAlphaUnder, writingAlpha, fractionLength, exponentLength, textLength, zeroAt};
 ghost use Rattle.codec.specs.Packing.{heldBy, Held};
 use crate::answers::NO_ROOM;
 use crate::answers::WriteAnswer;
@@ -157,8 +157,8 @@ fn write_text(image: Image, truncation: Truncation, buffer: &mut [u8])
 // The alpha text of a number under an image already read, of the image's length, at the buffer's start; the bytes behind it stay.
 // Refused with 1, 2, 3, 4, 5, 6 in this order; then no byte changes.
 pub fn write_alpha_under(image: Image, number: Number, buffer: &mut [u8]) -> WriteAnswer
-    ensures answer { λ r. ⌜ writeMeaning r ≡ sized (convertingUnder image number (length (now (buffer .entry)))) ⌝ }
-    ensures bytes { λ r. ⌜ now (buffer .exit) ≡ storedIn (convertingUnder image number (length (now (buffer .entry)))) (now (buffer .entry)) ⌝ }
+    ensures answer { λ r. ⌜ writeMeaning r ≡ sized (writingAlphaUnder image number (length (now (buffer .entry)))) ⌝ }
+    ensures bytes { λ r. ⌜ now (buffer .exit) ≡ storedIn (writingAlphaUnder image number (length (now (buffer .entry)))) (now (buffer .entry)) ⌝ }
 {
     let truncation = truncate(image, number, 0);
     let answer = truncation.answer;
@@ -178,8 +178,8 @@ pub fn write_alpha_under(image: Image, number: Number, buffer: &mut [u8]) -> Wri
 
 // The alpha text of a number under the bytes of an image, as write_alpha_under writes it; refused first as the image is.
 pub fn write_alpha(image: &[u8], number: Number, buffer: &mut [u8]) -> WriteAnswer
-    ensures answer { λ r. ⌜ writeMeaning r ≡ sized (converting (now (image .entry)) number (length (now (buffer .entry)))) ⌝ }
-    ensures bytes { λ r. ⌜ now (buffer .exit) ≡ storedIn (converting (now (image .entry)) number (length (now (buffer .entry)))) (now (buffer .entry)) ⌝ }
+    ensures answer { λ r. ⌜ writeMeaning r ≡ sized (writingAlpha (now (image .entry)) number (length (now (buffer .entry)))) ⌝ }
+    ensures bytes { λ r. ⌜ now (buffer .exit) ≡ storedIn (writingAlpha (now (image .entry)) number (length (now (buffer .entry)))) (now (buffer .entry)) ⌝ }
 {
     match read_image(image, 0) {
         ImageAnswer::Refused(refusal) => WriteAnswer::Refused(refusal),

@@ -11,7 +11,7 @@ ghost use Rattle.codec.specs.Text.{
   isDigit,
   signIn,
   signLength,
-  Held,
+  DigitsFit,
   RunFound,
   FractionFound,
   PowerFound,
@@ -51,7 +51,7 @@ pub(crate) const NO_READING: Reading = Reading {
 };
 
 // Digits that were read, as a whole number, and how many they are.
-struct Run {
+struct DigitRun {
     value: u64,
     count: usize,
 }
@@ -143,29 +143,29 @@ fn is_digit(byte: u8) -> bool
 }
 
 // At most so many digits from a place on, behind a value already read.
-fn digit_run(text: &[u8], at: usize, most: usize, start: u64) -> Run
-    requires { ⌜ (at ≤ length (now text)) × Held start most ⌝ }
+fn digit_run(text: &[u8], at: usize, most: usize, start: u64) -> DigitRun
+    requires { ⌜ (at ≤ length (now text)) × DigitsFit start most ⌝ }
     ensures { λ r. ⌜ RunFound (drop at (now (text .entry))) most start (r .value) (r .count) ⌝ }
 {
     let mut value = start;
     let mut count = 0;
     while count < most {
         if text.len() <= at + count {
-            return Run { value, count };
+            return DigitRun { value, count };
         }
         let byte = text[at + count];
         if !is_digit(byte) {
-            return Run { value, count };
+            return DigitRun { value, count };
         }
         value = value * 10 + (byte - b'0') as u64;
         count += 1;
     }
-    Run { value, count }
+    DigitRun { value, count }
 }
 
 // A point at a place and at most so many digits behind it, which go on a value already read.
 fn fraction_at(text: &[u8], at: usize, most: usize, start: u64) -> Fraction
-    requires { ⌜ (at ≤ length (now text)) × Held start most ⌝ }
+    requires { ⌜ (at ≤ length (now text)) × DigitsFit start most ⌝ }
     ensures { λ r. ⌜ FractionFound (drop at (now (text .entry))) most start (r .value) (r .count) (r .used) ⌝ }
 {
     if text.len() <= at {

@@ -45,7 +45,7 @@ pub struct Unpacked {
 }
 
 // The digits of a column as one whole number, or that some half is none.
-enum Run {
+enum ColumnRun {
     Value(u64),
     Bad,
 }
@@ -61,7 +61,7 @@ fn bad_half(column: usize) -> NumberAnswer
 }
 
 // The bytes from a place on, two digits each, behind a value already read.
-fn read_pairs(bytes: &[u8], from: usize, start: u64, worths: &[u8; 256]) -> Run
+fn read_pairs(bytes: &[u8], from: usize, start: u64, worths: &[u8; 256]) -> ColumnRun
     requires { ⌜ (from ≤ length (now bytes)) × (length (now bytes) ≤ 9) × (start < 10) × IsWorths (now worths) ⌝ }
     ensures { λ r. ⌜ runMeaning r ≡ readOn start (halvesOf (drop from (now (bytes .entry)))) ⌝ }
 {
@@ -70,16 +70,16 @@ fn read_pairs(bytes: &[u8], from: usize, start: u64, worths: &[u8; 256]) -> Run
     while i < bytes.len() {
         let two = worths[bytes[i] as usize];
         if two == NO_WORTH {
-            return Run::Bad;
+            return ColumnRun::Bad;
         }
         value = value * 100 + two as u64;
         i += 1;
     }
-    Run::Value(value)
+    ColumnRun::Value(value)
 }
 
 // All halves of a column behind its sign half, which are digits.
-fn read_run(bytes: &[u8], signs: usize, worths: &[u8; 256]) -> Run
+fn read_run(bytes: &[u8], signs: usize, worths: &[u8; 256]) -> ColumnRun
     requires { ⌜ (0 < length (now bytes)) × (length (now bytes) ≤ 9) × (signs ≤ 1) × IsWorths (now worths) ⌝ }
     ensures { λ r. ⌜ runMeaning r ≡ readOn 0 (drop signs (halvesOf (now (bytes .entry)))) ⌝ }
 {
@@ -88,7 +88,7 @@ fn read_run(bytes: &[u8], signs: usize, worths: &[u8; 256]) -> Run
     }
     let first = low_half(bytes[0]);
     if 9 < first {
-        return Run::Bad;
+        return ColumnRun::Bad;
     }
     read_pairs(bytes, 1, first as u64, worths)
 }
@@ -200,8 +200,8 @@ fn unpack_column(image: Image, bytes: &[u8], column: usize, worths: &[u8; 256]) 
     let sign = image.sign;
     let signs = sign_count(sign);
     match read_run(bytes, signs, worths) {
-        Run::Bad => bad_half(column),
-        Run::Value(value) => {
+        ColumnRun::Bad => bad_half(column),
+        ColumnRun::Value(value) => {
             let half = column_sign(bytes, signs);
             run_number(image, half, value, column)
         }

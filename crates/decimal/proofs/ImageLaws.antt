@@ -32,15 +32,15 @@ times-length (suc n) b = ap suc (times-length n b)
 -- An image runs to its counts.
 
 -- bytes read from a state on are accepted, with this kind and these counts
-record Run (s : State) (bs : List ℕ) (kind : Bool) (before behind : ℕ) : Type 0 where
+record ImageRun (s : State) (bs : List ℕ) (kind : Bool) (before behind : ℕ) : Type 0 where
   accepted : isImage (runState s bs) ≡ true
   exponential : isExponential (runState s bs) ≡ kind
   integers : integersFrom s bs ≡ before
   fractions : fractionsFrom s bs ≡ behind
 
 -- one byte more in front
-over : (s : State) (b : ℕ) {bs : List ℕ} {kind : Bool} {before behind : ℕ} → Run (nextState s b) bs kind before behind
-    → Run s (b ∷ bs) kind (counted (integerHash (nextState s b)) before) (counted (fractionHash (nextState s b)) behind)
+over : (s : State) (b : ℕ) {bs : List ℕ} {kind : Bool} {before behind : ℕ} → ImageRun (nextState s b) bs kind before behind
+    → ImageRun s (b ∷ bs) kind (counted (integerHash (nextState s b)) before) (counted (fractionHash (nextState s b)) behind)
 unfolding runState integersFrom fractionsFrom
 over s b r =
     record {
@@ -50,7 +50,7 @@ over s b r =
       fractions = ap (counted (fractionHash (nextState s b))) (r .fractions);
     }
 
-fraction-run : (behind : ℕ) (kind : Bool) → Run (Fraction false) (times behind hashByte ++ upBytes kind) kind 0 behind
+fraction-run : (behind : ℕ) (kind : Bool) → ImageRun (Fraction false) (times behind hashByte ++ upBytes kind) kind 0 behind
 unfolding runState nextState integersFrom fractionsFrom times upBytes
 fraction-run zero true = record { accepted = refl; exponential = refl; integers = refl; fractions = refl }
 fraction-run zero false = record { accepted = refl; exponential = refl; integers = refl; fractions = refl }
@@ -60,20 +60,20 @@ fraction-run (suc n) kind = over (Fraction false) hashByte (fraction-run n kind)
 abbrev bodyBytes : ℕ → ℕ → Bool → List ℕ
 bodyBytes before behind kind = times before hashByte ++ (fractionBytes behind ++ upBytes kind)
 
-integer-run : (before behind : ℕ) (kind : Bool) → Run (Integer false) (bodyBytes before behind kind) kind before behind
+integer-run : (before behind : ℕ) (kind : Bool) → ImageRun (Integer false) (bodyBytes before behind kind) kind before behind
 unfolding runState nextState integersFrom fractionsFrom times fractionBytes upBytes
 integer-run zero zero true = record { accepted = refl; exponential = refl; integers = refl; fractions = refl }
 integer-run zero zero false = record { accepted = refl; exponential = refl; integers = refl; fractions = refl }
 integer-run zero (suc n) kind = over (Integer false) pointByte (over (Point false) hashByte (fraction-run n kind))
 integer-run (suc m) behind kind = over (Integer false) hashByte (integer-run m behind kind)
 
-start-run : (before behind : ℕ) (kind : Bool) → 0 < before + behind → Run Start (bodyBytes before behind kind) kind before behind
+start-run : (before behind : ℕ) (kind : Bool) → 0 < before + behind → ImageRun Start (bodyBytes before behind kind) kind before behind
 unfolding nextState times fractionBytes
 start-run zero zero kind h = absurd (omega arith)
 start-run zero (suc n) kind h = over Start pointByte (over (Point false) hashByte (fraction-run n kind))
 start-run (suc m) behind kind h = over Start hashByte (integer-run m behind kind)
 
-signed-run : (before behind : ℕ) (kind : Bool) → 0 < before + behind → Run Signed (bodyBytes before behind kind) kind before behind
+signed-run : (before behind : ℕ) (kind : Bool) → 0 < before + behind → ImageRun Signed (bodyBytes before behind kind) kind before behind
 unfolding nextState times fractionBytes
 signed-run zero zero kind h = absurd (omega arith)
 signed-run zero (suc n) kind h = over Signed pointByte (over (Point false) hashByte (fraction-run n kind))
@@ -81,7 +81,7 @@ signed-run (suc m) behind kind h = over Signed hashByte (integer-run m behind ki
 
 -- each image, with its sign
 whole-run : (sign : Sign) (before behind : ℕ) (kind : Bool) → 0 < before + behind
-    → Run Start (signBytes sign ++ bodyBytes before behind kind) kind before behind
+    → ImageRun Start (signBytes sign ++ bodyBytes before behind kind) kind before behind
 unfolding nextState signBytes
 whole-run Unsigned before behind kind h = start-run before behind kind h
 whole-run Plus before behind kind h = over Start plusByte (signed-run before behind kind h)

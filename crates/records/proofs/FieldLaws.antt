@@ -22,10 +22,10 @@ use Rattle.decimal.specs.Image.{hashByte, pointByte, commaByte, hashes, times, 
 use Rattle.decimal.specs.Truncation.{Truncated, truncation}
 use Rattle.decimal.proofs.DigitLaws.{digit-below, digits-are-digits, le-or-lt}
 use Rattle.codec.specs.Answers.{storedIn, written, sized}
-use Rattle.codec.specs.Alpha.{alphaText, textLength, convertingUnder, blankByte, zeroByte}
+use Rattle.codec.specs.Alpha.{alphaText, textLength, writingAlphaUnder, blankByte, zeroByte}
 use Rattle.codec.proofs.ListLaws.{filled-length}
 use Rattle.decimal.proofs.AnswerLaws.{never-done}
-use Rattle.codec.proofs.AlphaLaws.{text-length, image-length, under-refused, under-done, converting-under-refused, converting-under-done}
+use Rattle.codec.proofs.AlphaLaws.{text-length, image-length, under-refused, under-done, writing-under-refused, writing-under-done}
 use Rattle.records.specs.declared.fields.Fill.{Fill}
 use Rattle.records.specs.declared.fields.Element.{Element}
 use Rattle.records.specs.declared.fields.Element.the-variants as element
@@ -307,17 +307,17 @@ exponential-image {field} {f} is e =
 -- A number under the image of an exponential field, into a buffer with room for the field.
 
 -- it is refused, and nothing is written
-pub record NotConverted (im : Image) (n : Number) (room : ℕ) : Type 0 where
+pub record AlphaRefused (im : Image) (n : Number) (room : ℕ) : Type 0 where
   pub number : ℕ
   pub place : ℕ
   pub truncated : truncation 0 im n ≡ refused number place
-  pub converted : convertingUnder im n room ≡ refused number place
+  pub answer : writingAlphaUnder im n room ≡ refused number place
 
 -- or its alpha text is
-pub record Converted (im : Image) (n : Number) (room : ℕ) : Type 0 where
+pub record AlphaWritten (im : Image) (n : Number) (room : ℕ) : Type 0 where
   pub to : Truncated
   pub truncated : truncation 0 im n ≡ done to
-  pub converted : convertingUnder im n room ≡ done (alphaText im to)
+  pub answer : writingAlphaUnder im n room ≡ done (alphaText im to)
 
 module _ {field : List ℕ} (ready : FieldReady field) {im : Image} (same : im ≡ scannedImage field) (e : im .exponential ≡ true) (n : Number) {room : ℕ} (fits : length field ≤ room) where
   -- a text has the field's length
@@ -327,26 +327,26 @@ module _ {field : List ℕ} (ready : FieldReady field) {im : Image} (same : im �
       ap textLength same ∙ sym (ap length (image .rendered) ∙ image-length (scannedImage field))
 
   -- so that there is room for it
-  text-converted : {t : Truncated} → truncation 0 im n ≡ done t → convertingUnder im n room ≡ done (alphaText im t)
-  text-converted {t} h = converting-under-done im n room (under-done im n h) (omega (arith, text-length im t, exponential-length))
+  alpha-given : {t : Truncated} → truncation 0 im n ≡ done t → writingAlphaUnder im n room ≡ done (alphaText im t)
+  alpha-given {t} h = writing-under-done im n room (under-done im n h) (omega (arith, text-length im t, exponential-length))
 
   -- a number is refused where it is not truncated
-  pub not-converted : {number place : ℕ} → refused number place ≡ sized (convertingUnder im n room) → NotConverted im n room
+  pub alpha-refused : {number place : ℕ} → refused number place ≡ sized (writingAlphaUnder im n room) → AlphaRefused im n room
   unfolding sized
-  not-converted {number} {place} h = go (truncation 0 im n) refl
+  alpha-refused {number} {place} h = go (truncation 0 im n) refl
     where
-      go : (a : Answer Truncated) → truncation 0 im n ≡ a → NotConverted im n room
-      go (done t) k = never-done {number = number} {place = place} (h ∙ ap sized (text-converted k))
-      go (refused x y) k = record { number = x; place = y; truncated = k; converted = converting-under-refused im n room (under-refused im n k) }
+      go : (a : Answer Truncated) → truncation 0 im n ≡ a → AlphaRefused im n room
+      go (done t) k = never-done {number = number} {place = place} (h ∙ ap sized (alpha-given k))
+      go (refused x y) k = record { number = x; place = y; truncated = k; answer = writing-under-refused im n room (under-refused im n k) }
 
   -- else its text is written
-  pub is-converted : {size : ℕ} → done size ≡ sized (convertingUnder im n room) → Converted im n room
+  pub alpha-written : {size : ℕ} → done size ≡ sized (writingAlphaUnder im n room) → AlphaWritten im n room
   unfolding sized
-  is-converted {size} h = go (truncation 0 im n) refl
+  alpha-written {size} h = go (truncation 0 im n) refl
     where
-      go : (a : Answer Truncated) → truncation 0 im n ≡ a → Converted im n room
-      go (done t) k = record { to = t; truncated = k; converted = text-converted k }
-      go (refused x y) k = never-done {number = x} {place = y} (sym (ap sized (converting-under-refused im n room (under-refused im n k))) ∙ sym h)
+      go : (a : Answer Truncated) → truncation 0 im n ≡ a → AlphaWritten im n room
+      go (done t) k = record { to = t; truncated = k; answer = alpha-given k }
+      go (refused x y) k = never-done {number = x} {place = y} (sym (ap sized (writing-under-refused im n room (under-refused im n k))) ∙ sym h)
 
 -- What a number prints.
 

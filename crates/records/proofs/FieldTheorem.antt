@@ -15,13 +15,13 @@ use Rattle.decimal.specs.Image.{times, hashByte, signBytes, fractionBytes, upBy
 use Rattle.records.specs.Scanning.{Field, runBytes, fieldBytes, Positive, total, IsField, LongestField, isField, longestFrom, fieldLength}
 use Rattle.records.proofs.ScanLaws.{later, suc-eqb}
 use Rattle.records.proofs.FieldTails.{some-field}
-use Rattle.records.proofs.FieldRuns.{Run, whole-run, whole-sign}
+use Rattle.records.proofs.FieldRuns.{FieldRun, whole-run, whole-sign}
 
 -- The machine and the grammar.
 
 -- a field is accepted, with its kind and counts
 field-run : (f : Field) → Positive (f .runs) → 0 < total (f .runs) + f .fraction → (f .exponential ≡ true → length (f .runs) ≤ 1)
-    → Run Start (fieldBytes f) (f .exponential) (total (f .runs)) (f .fraction)
+    → FieldRun Start (fieldBytes f) (f .exponential) (total (f .runs)) (f .fraction)
 unfolding fieldBytes
 field-run f p h l = whole-run (f .sign) (f .runs) (f .fraction) (f .exponential) p h l
 

@@ -12,6 +12,7 @@ use lib.Seq.{drop-cons, take-suc-set, append-snoc, drop-length}
 use Rattle.decimal.specs.declared.image.Sign.{Sign}
 use Rattle.decimal.specs.declared.image.Sign.the-variants.{Unsigned, Plus, Minus}
 use Rattle.decimal.specs.Answer.{refused, pick}
+use Rattle.decimal.specs.Digits.{precision}
 use Rattle.decimal.specs.Image.{pointByte, signBytes, times}
 use Rattle.codec.specs.Alpha.{blankByte, digitBytes}
 use Rattle.codec.specs.Text.{PointPart, noPoint, point, ExponentPart, noExponent, exponent, TextParts, HasForm}
@@ -103,7 +104,7 @@ power-short (exponent sign ds) h =
 
 -- the room that the code has for a text number with no blank
 abbrev pub textRoom : ℕ
-textRoom = 24
+textRoom = precision + 6
 
 -- a text number with no blank has that room
 form-short : {bytes : List ℕ} {t : TextParts} → HasForm bytes t → blankCount bytes ≡ 0 → length bytes ≤ textRoom

@@ -14,7 +14,7 @@ use Rattle.codec.specs.declared.answers.WriteAnswer.{WriteAnswer}
 use Rattle.codec.specs.declared.answers.WriteAnswer.the-variants as writes
 use Rattle.codec.specs.Columns.{AllChecked, none, more}
 use Rattle.codec.specs.Answers.{written, sized, writeMeaning}
-use Rattle.codec.specs.Alpha.{blankByte, alphaUnder, alphaTexts, parted, convertingUnder}
+use Rattle.codec.specs.Alpha.{blankByte, alphaUnder, alphaTexts, parted, writingAlphaUnder}
 use Rattle.decimal.proofs.AnswerLaws.{never-done}
 use Rattle.codec.proofs.LineLaws.{texts-view}
 use Rattle.codec.specs.Walking.{lineEnd}
@@ -92,13 +92,13 @@ texts-at (more {im} {ims} c cs) (n ∷ ns) {texts} h (suc k) d e l =
     texts-at cs ns (s .rest) k d e (omega arith) ∙ ap (λ (x : List (List ℕ)). done (getD x (suc k) [])) (s .joined)
 
 -- the call that writes it, where there is room
-text-converted :
+text-given :
     (im : Image) (n : Number) (room : ℕ) {text : List ℕ}
     → alphaUnder im n ≡ done text
     → length text ≤ room
-    → convertingUnder im n room ≡ done text
-unfolding convertingUnder _then_
-text-converted im n room {text} h l = rw h (within-some room text l)
+    → writingAlphaUnder im n room ≡ done text
+unfolding writingAlphaUnder _then_
+text-given im n room {text} h l = rw h (within-some room text l)
 
 -- a record's line and its end
 pub line-length : (texts : List (List ℕ)) → length (recordLine texts) ≡ suc (length (parted texts))
@@ -276,10 +276,10 @@ module _ (answer : WriteAnswer) (text : List ℕ) (h : writeMeaning answer ≡ s
   wrote-some {B} {refusal} e = never-done (sym (ap writeMeaning e) ∙ h)
 
 -- a part of a buffer, from a place on to the end, has room for a text that ends within the buffer
-pub part-converted :
+pub part-given :
     (im : Image) (n : Number) (b : List ℕ) (out : ℕ) {text : List ℕ}
     → alphaUnder im n ≡ done text
     → out + length text ≤ length b
-    → convertingUnder im n (length (partBehind b out)) ≡ done text
-part-converted im n b out h l =
-    text-converted im n (length (partBehind b out)) h (omega (arith, ap length (behind-all b out), length-drop out b))
+    → writingAlphaUnder im n (length (partBehind b out)) ≡ done text
+part-given im n b out h l =
+    text-given im n (length (partBehind b out)) h (omega (arith, ap length (behind-all b out), length-drop out b))

@@ -30,6 +30,7 @@ use decimal::CheckAnswer;
 use decimal::Image;
 use decimal::Number;
 use decimal::NumberAnswer;
+use decimal::PRECISION;
 use decimal::Refusal;
 use decimal::Sign;
 use decimal::Truncation;
@@ -270,8 +271,8 @@ pub(crate) fn write_element(
     }
 }
 
-// The most bytes that a text number with no blank has.
-const TEXT_ROOM: usize = 24;
+// The most bytes that a text number with no blank has: PRECISION digits, a sign, a point, and E with a sign and two digits.
+const TEXT_ROOM: usize = PRECISION + 6;
 
 // A field read back under marks: without them, the whole of what is left converted; refused with 8 or 5.
 fn read_marked(field: &[u8], marks: Marks) -> NumberAnswer

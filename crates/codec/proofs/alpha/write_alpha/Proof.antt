@@ -7,8 +7,8 @@ use borrow.Author.Needs.{needs}
 use Rattle.decimal.specs.Answer.{Answer, done}
 use Rattle.decimal.specs.Image.{imageMeaning, readImage}
 use Rattle.codec.specs.Answers.{storedIn, sized}
-use Rattle.codec.specs.Alpha.{converting}
-use Rattle.codec.proofs.AlphaLaws.{refused-answers, alpha-image, converting-refused, converting-read}
+use Rattle.codec.specs.Alpha.{writingAlpha}
+use Rattle.codec.proofs.AlphaLaws.{refused-answers, alpha-image, writing-refused, writing-read}
 use Rattle.codec.proofs.alpha.write_alpha.Statement.{statement}
 use Rattle.codec.proofs.alpha.write_alpha.Tie as tie
 
@@ -30,8 +30,8 @@ returns c =
     let a = r .before .before .before .args in
     let room = length (a .buffer .now) in
     let read = sym (r .read-image .ensures) ∙ ap imageMeaning (c .before .refusal .given .1) in
-    refused-answers (converting (a .image .now) (a .number) room) (a .buffer .now)
-    (converting-refused (a .image .now) (a .number) room (alpha-image (a .image .now) (a .number) read))
+    refused-answers (writingAlpha (a .image .now) (a .number) room) (a .buffer .now)
+    (writing-refused (a .image .now) (a .number) room (alpha-image (a .image .now) (a .number) read))
 
 same-length : tie.Need-same-length
 same-length c = search needs
@@ -44,7 +44,7 @@ returns-2 c =
     let a = r .before .before .before .args in
     let im = d .read .given .0 .0 in
     let read : readImage 0 (a .image .now) ≡ done im = sym (r .read-image .ensures) ∙ ap imageMeaning (d .read .given .1) in
-    let same = sym (converting-read (a .image .now) (a .number) im read (length (a .buffer .now))) in
+    let same = sym (writing-read (a .image .now) (a .number) im read (length (a .buffer .now))) in
     let under = w .write-alpha-under .ensures in
     (under .0 ∙ ap sized same, under .1 ∙ ap (λ (x : Answer (List ℕ)). storedIn x (a .buffer .now)) same)
 

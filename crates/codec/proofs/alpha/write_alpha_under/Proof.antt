@@ -4,9 +4,9 @@ use mathlib.Core.Path.{sym, _∙_}
 use native.Mathlib.Omega.{arith}
 use lib.ListN.{length}
 use borrow.Author.Needs.{needs}
-use Rattle.codec.specs.Alpha.{convertingUnder, alphaText, textLength}
+use Rattle.codec.specs.Alpha.{writingAlphaUnder, alphaText, textLength}
 use Rattle.codec.specs.Packing.{heldBy}
-use Rattle.codec.proofs.AlphaLaws.{refused-answers, done-answers, text-length, truncation-found, truncation-refused, under-refused, under-held, converting-under-refused, converting-under-long, converting-under-done}
+use Rattle.codec.proofs.AlphaLaws.{refused-answers, done-answers, text-length, truncation-found, truncation-refused, under-refused, under-held, writing-under-refused, writing-under-long, writing-under-done}
 use Rattle.codec.proofs.alpha.write_alpha_under.Statement.{statement}
 use Rattle.codec.proofs.alpha.write_alpha_under.Tie as tie
 
@@ -23,8 +23,8 @@ returns c =
     let room = length (a .buffer .now) in
     let refusal = c .before .answer .given .0 .0 in
     let refused = truncation-refused (a .image) (a .number) (t .truncate .result) refusal (t .truncate .ensures) (c .before .answer .given .1) in
-    refused-answers (convertingUnder (a .image) (a .number) room) (a .buffer .now)
-    (converting-under-refused (a .image) (a .number) room (under-refused (a .image) (a .number) refused))
+    refused-answers (writingAlphaUnder (a .image) (a .number) room) (a .buffer .now)
+    (writing-under-refused (a .image) (a .number) room (under-refused (a .image) (a .number) refused))
 
 enum-told : tie.Need-enum-told
 enum-told c = search needs
@@ -44,8 +44,8 @@ returns-2 c =
     let found = truncation-found (a .image) (a .number) (t .truncate .result) (t .truncate .ensures) (e .enum-told .given .1) in
     let size = text-length (a .image) (heldBy (t .truncate .result)) in
     let long : length (a .buffer .now) < length (alphaText (a .image) (heldBy (t .truncate .result))) = omega (arith, c .if1 .taken, c .before .text-length .ensures) in
-    refused-answers (convertingUnder (a .image) (a .number) room) (a .buffer .now)
-    (converting-under-long (a .image) (a .number) room (under-held (a .image) (a .number) (t .truncate .result) found) long)
+    refused-answers (writingAlphaUnder (a .image) (a .number) room) (a .buffer .now)
+    (writing-under-long (a .image) (a .number) room (under-held (a .image) (a .number) (t .truncate .result) found) long)
 
 write-text-requires : tie.Need-write-text-requires
 write-text-requires c κs =
@@ -70,8 +70,8 @@ returns-3 c =
     let found = truncation-found (a .image) (a .number) (t .truncate .result) (t .truncate .ensures) (e .enum-told .given .1) in
     let size = text-length (a .image) (heldBy (t .truncate .result)) in
     let fits : length (alphaText (a .image) (heldBy (t .truncate .result))) ≤ length (a .buffer .now) = omega (arith, l .if1 .left, l .before .text-length .ensures) in
-    done-answers (convertingUnder (a .image) (a .number) room) (a .buffer .now)
-    (converting-under-done (a .image) (a .number) room (under-held (a .image) (a .number) (t .truncate .result) found) fits)
+    done-answers (writingAlphaUnder (a .image) (a .number) room) (a .buffer .now)
+    (writing-under-done (a .image) (a .number) room (under-held (a .image) (a .number) (t .truncate .result) found) fits)
     (size ∙ sym (l .before .text-length .ensures))
     (w .write-text .ensures)
 

@@ -15,7 +15,7 @@ use Rattle.codec.specs.Alpha.{alphaText}
 use Rattle.records.specs.Marks.{withDecimal}
 use Rattle.records.specs.Fields.{pointMarked}
 use Rattle.records.proofs.MarkLaws.{point-marked}
-use Rattle.records.proofs.FieldLaws.{stored-part, part-back, exponential-length, not-converted, is-converted, number-refused, number-alpha}
+use Rattle.records.proofs.FieldLaws.{stored-part, part-back, exponential-length, alpha-refused, alpha-written, number-refused, number-alpha}
 use borrow.Author.Needs.{needs}
 use Rattle.records.proofs.fields.write_exponential.Statement.{statement}
 use Rattle.records.proofs.fields.write_exponential.Tie as tie
@@ -53,9 +53,9 @@ returns c =
     let part = take k (drop (a .at) b) in
     let room : length part ≡ k = length-take-le k (drop (a .at) b) (omega (arith, length-drop (a .at) b)) in
     let told = c .before .before .before .before .enum-told .given in
-    let spilled = not-converted (s .pre .0) (s .pre .1) (s .pre .2) (a .number) (omega (arith, s .pre .3)) (sym (ap writeMeaning (told .1)) ∙ w .write-alpha-under .ensures .0) in
+    let spilled = alpha-refused (s .pre .0) (s .pre .1) (s .pre .2) (a .number) (omega (arith, s .pre .3)) (sym (ap writeMeaning (told .1)) ∙ w .write-alpha-under .ensures .0) in
     let none = ap (λ (im : Image). truncation 0 im (a .number)) (sym (s .pre .1)) ∙ spilled .truncated in
-    let stays : w .write-alpha-under .last .1 .1 .0 ≡ part = w .write-alpha-under .ensures .1 ∙ ap (λ (x : Answer (List ℕ)). storedIn x part) (spilled .converted) in
+    let stays : w .write-alpha-under .last .1 .1 .0 ≡ part = w .write-alpha-under .ensures .1 ∙ ap (λ (x : Answer (List ℕ)). storedIn x part) (spilled .answer) in
     c .before .before .write-bytes .ensures
     ∙ ap (λ (l : List ℕ). written l (a .at) field) (part-back b (a .at) k (w .write-alpha-under .last .1 .1 .0) (omega (arith, s .pre .3)) refl stays)
     ∙ ap (written b (a .at)) (sym (number-refused (a .marks) field (a .number) none))
@@ -84,11 +84,11 @@ returns-2 c =
     let part = take k (drop (a .at) b) in
     let room : length part ≡ k = length-take-le k (drop (a .at) b) (omega (arith, length-drop (a .at) b)) in
     let told = c .before .before .before .before .enum-told2 .given in
-    let shown = is-converted (s .pre .0) (s .pre .1) (s .pre .2) (a .number) (omega (arith, s .pre .3)) (sym (ap writeMeaning (told .1)) ∙ w .write-alpha-under .ensures .0) in
+    let shown = alpha-written (s .pre .0) (s .pre .1) (s .pre .2) (a .number) (omega (arith, s .pre .3)) (sym (ap writeMeaning (told .1)) ∙ w .write-alpha-under .ensures .0) in
     let kind = sym (ap (λ (im : Image). im .exponential) (s .pre .1)) ∙ s .pre .2 in
     let to = ap (λ (im : Image). truncation 0 im (a .number)) (sym (s .pre .1)) ∙ shown .truncated in
     let text = alphaText (a .image) (shown .to) in
-    let put = stored-part b (a .at) k text (w .write-alpha-under .last .1 .1 .0) (omega (arith, s .pre .3)) refl (w .write-alpha-under .ensures .1 ∙ ap (λ (x : Answer (List ℕ)). storedIn x part) (shown .converted)) in
+    let put = stored-part b (a .at) k text (w .write-alpha-under .last .1 .1 .0) (omega (arith, s .pre .3)) refl (w .write-alpha-under .ensures .1 ∙ ap (λ (x : Answer (List ℕ)). storedIn x part) (shown .answer)) in
     c .before .before .mark-point .ensures
     ∙ ap (pointMarked (a .marks) (a .image) (a .at)) put
     ∙ point-marked (a .marks) (a .image) (shown .to) b (a .at) (omega (arith, s .pre .3))

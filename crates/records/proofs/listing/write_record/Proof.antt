@@ -12,7 +12,7 @@ use Rattle.decimal.specs.declared.number.Number.{Number}
 use Rattle.decimal.specs.Answer.{Answer, done, given}
 use Rattle.codec.specs.Answers.{storedIn, sized, writeMeaning}
 use Rattle.codec.specs.Lists.{maxColumns}
-use Rattle.codec.specs.Alpha.{alphaTexts, convertingUnder}
+use Rattle.codec.specs.Alpha.{alphaTexts, writingAlphaUnder}
 use Rattle.records.proofs.RecordLaws.{
   Texting,
   Separated,
@@ -27,7 +27,7 @@ use Rattle.records.proofs.RecordLaws.{
   separated-room,
   texts-long,
   text-under,
-  part-converted,
+  part-given,
   wrote-length,
   wrote-some,
 }
@@ -106,9 +106,9 @@ wrote w =
     let k = head j .loop .column in
     let many : length (a .t1 .values) ≡ maxColumns = sym (length-map (a .t1 .values) _) ∙ s .good .0 .1 .1 .0 .1 .0 .1 in
     let same :
-    (d : Image) (n : Number) → convertingUnder (getD (a .t1 .values) k d) (getD (a .t2 .values) k n) (length (part j)) ≡ done (text j) =
+    (d : Image) (n : Number) → writingAlphaUnder (getD (a .t1 .values) k d) (getD (a .t2 .values) k n) (length (part j)) ≡ done (text j) =
     λ d n.
-    part-converted (getD (a .t1 .values) k d) (getD (a .t2 .values) k n) (j .if1 .buffer) (j .if1 .out)
+    part-given (getD (a .t1 .values) k d) (getD (a .t2 .values) k n) (j .if1 .buffer) (j .if1 .out)
     (text-under (a .t1 .values) (a .t2 .values) (a .t1 .count) (s .pre .1) (omega arith) k d n (j .before .before .before .loop-test .taken))
     (room j) in
     let e = w .write-alpha-under .ensures in
