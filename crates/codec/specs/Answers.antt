@@ -7,7 +7,7 @@ use Rattle.decimal.specs.Answer.{Answer, done, refused, pick}
 use Rattle.codec.specs.declared.answers.WriteAnswer.{WriteAnswer}
 use Rattle.codec.specs.declared.answers.WriteAnswer.the-variants as gives
 
--- each case of the code's answer, in document 01's numbers: the body's length, or the refusal
+-- each case of the code's answer, in document 01's numbers: the count of bytes written, or the refusal
 abbrev pub writeMeaning : WriteAnswer → Answer ℕ
 writeMeaning (gives.Written size) = done size
 writeMeaning (gives.Refused r) = refused (r .number) (r .place)

@@ -33,6 +33,6 @@ noImage = record { sign = Unsigned; integer = 0; fraction = 0; exponential = fal
 unfoldable pub imageList : Images → List Image
 imageList images = filled (images .count) noImage (images .values)
 
--- the list that the code's array and count stand for
+-- the list that the code's array of numbers and their count stand for
 unfoldable pub listOf : Numbers → List Number
 listOf numbers = filled (numbers .count) zeroNumber (numbers .values)

@@ -1,4 +1,4 @@
--- Demand 3 as far as bodies go: what the order of bodies is compared with, and what a body is read back as.
+-- The part of demand 3 that is about bodies: what the order of bodies is compared with, and what a body is read back as.
 use Prim.Native.Nat.{ℕ, _<_}
 use mathlib.Core.Path.{_≡_}
 use mathlib.Core.List.{List, [], _∷_}

@@ -96,7 +96,7 @@ pub data Packs : List Image → List Number → Type 0 where
 
 -- What the code's helpers ask and find.
 
--- a number that packing truncates, under every column's number
+-- a number that packing accepts under an image, and its truncation, the same for every column number
 pub record PacksUnder (im : Image) (n : Number) : Type 0 where
   pub to : Truncated
   pub truncated : (column : ℕ) → packedTruncation column im n ≡ done to
@@ -110,7 +110,7 @@ pub data AllPack : List Image → List Number → Type 0 where
 abbrev pub heldBy : Truncation → Truncated
 heldBy t = record { negative = t .negative; whole = valueOf (halvesIn precision (t .halves)); x = t .x }
 
--- a truncation of which a column can be made: the image has no more # signs than there are digits, k has no more digits than the image, and
+-- a truncation of which a column can be made: the image has no more # signs than a mantissa has digits, k has no more digits than the image, and
 -- x is within its limits
 pub record Held (im : Image) (t : Truncation) : Type 0 where
   pub size : hashes im ≤ precision

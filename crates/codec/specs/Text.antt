@@ -197,7 +197,7 @@ readingMeaning r = record { used = r .used; number = numberMeaning (r .number) }
 abbrev pub legalLength : List ℕ → ℕ
 legalLength bytes = readingIn bytes .used
 
--- a whole text: 8 where it has not the form, ahead of 5
+-- a whole text: 8 where it does not have the form, ahead of 5
 unfoldable pub convertText : List ℕ → Answer Number
 convertText bytes = pick (eqb (legalLength bytes) (length bytes)) (readingIn bytes .number) (refused 8 0)
 

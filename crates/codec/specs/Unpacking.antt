@@ -55,7 +55,7 @@ minusBit s = eqb (s % 8) 1
 abbrev pub belowBit : ℕ → Bool
 belowBit s = leb 8 s
 
--- what the parts say: the sign, k, and x + exponentLimit
+-- what the parts stand for: the sign, k, and x + exponentLimit
 unfoldable pub saidBy : ℕ → ℕ → ℕ → Truncated
 saidBy sign whole size =
     record {
@@ -64,7 +64,7 @@ saidBy sign whole size =
       x = pick (belowBit sign) (exponentLimit - size) (exponentLimit + size);
     }
 
--- the rules that a sign half, k and |x| can break under an image: another sign half; a minus on zero; an 8 where x is 0 or the image is
+-- the rules that a sign half, k and |x| can break under an image: a sign half other than 0, 1, 8 and 9; a minus on zero; an 8 where x is 0 or the image is
 -- fixed; a zero mantissa with x not 0; an exponential mantissa that is not all zero but begins with 0
 unfoldable pub breaksRules : Image → ℕ → ℕ → ℕ → Bool
 breaksRules im sign whole size =
@@ -75,7 +75,7 @@ breaksRules im sign whole size =
     ∷ ((eqb whole 0 && leb 1 size)
     ∷ ((im .exponential && (leb 1 whole && ltb (whole * 10) (10 ^ hashes im))) ∷ [])))))
 
--- a refusal of the number's exponent is one of its halves
+-- a column whose number has e outside its limits is refused with 7
 unfoldable pub asHalf : ℕ → Answer Number → Answer Number
 asHalf column (done n) = done n
 asHalf column (refused number place) = refused 7 column
@@ -134,7 +134,7 @@ unpackedOf (refused number place) =
 abbrev pub runLimit : ℕ
 runLimit = 10 ^ 18
 
--- the whole number that halves continue a whole number to, 7 where one of them is no digit
+-- the whole number that a whole number and digits behind it make, 7 where one of them is above 9
 unfoldable pub readOn : ℕ → List ℕ → Answer ℕ
 readOn start [] = done start
 readOn start (d ∷ ds) = pick (ltb d 10) (readOn (start * 10 + d) ds) (refused 7 0)

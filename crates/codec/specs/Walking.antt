@@ -42,11 +42,11 @@ pub record Walk : Type 0 where
 unfoldable pub stopBefore : List ℕ → WalkAnswer
 stopBefore bytes = pick (eqb (length bytes) 0) gives.End (pick (eqb (legalLength bytes) 0) gives.NoNumber gives.TooMany)
 
--- no number more
+-- no more numbers: reading stops at this place, for this reason
 unfoldable pub stopped : WalkAnswer → ℕ → Walk
 stopped answer place = record { answer = answer; numbers = []; place = place }
 
--- a number before those behind it; a refusal ends the walk at the number's place, and says the number's index
+-- a number, then those behind it; a refused number ends the reading at its own place, and its index is the refusal's place
 unfoldable pub withNumber : ℕ → ℕ → Answer Number → Walk → Walk
 withNumber index place (done n) rest = record { answer = rest .answer; numbers = n ∷ rest .numbers; place = rest .place }
 withNumber index place (refused number _) rest = stopped (gives.Refused (record { number = number; place = index })) place

@@ -97,7 +97,7 @@ fn write_digits(run: u64, count: usize, buffer: &mut [u8], at: usize)
     }
 }
 
-// Writes the sign byte of an image with a sign at the buffer's start, and gives the place behind it.
+// Writes the sign byte at the buffer's start if the image has a sign, and gives the place behind it, else 0.
 fn write_sign(sign: Sign, negative: bool, buffer: &mut [u8]) -> usize
     requires { ⌜ signCount sign ≤ length (now buffer) ⌝ }
     ensures place { λ r. ⌜ r ≡ signCount sign ⌝ }

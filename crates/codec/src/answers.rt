@@ -7,7 +7,7 @@ use decimal::Refusal;
 // Refusal 6: an answer longer than the buffer, or than what follows the used length.
 pub const NO_ROOM: u8 = 6;
 
-// Refusal 10: a count outside its limits, or a list of another length than the contents.
+// Refusal 10: a count or a line's length outside its limits, or a list of another length than the contents.
 pub const WRONG_COUNT: u8 = 10;
 
 // Refusal 11: a used length past the buffer, bytes that end inside the contents or go on behind one lent alone, or a body of another

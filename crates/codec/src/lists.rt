@@ -11,7 +11,7 @@ pub struct Images {
     pub count: usize,
 }
 
-// A list of numbers: the first count of the values. A count above COLUMNS is a list that no contents has room for.
+// A list of numbers: the first count of the values. A count above COLUMNS is a list longer than any contents.
 pub struct Numbers {
     pub values: [Number; COLUMNS],
     pub count: usize,

@@ -34,7 +34,7 @@ use decimal::Truncation;
 use decimal::fit_packed;
 use decimal::truncate;
 
-// The size of the stored exponent, |x|.
+// The size |x| of a stored exponent that is held as x + EXPONENT_LIMIT.
 pub(crate) fn exponent_size(x: usize) -> u8
     requires { ⌜ x ≤ 2 * exponentLimit ⌝ }
     ensures { λ r. ⌜ r ≡ pick (ltb x exponentLimit) (exponentLimit - x) (x - exponentLimit) ⌝ }

@@ -32,7 +32,7 @@ pub const NOT_TEXT: u8 = 8;
 // The most digits of an exponent.
 const EXPONENT_DIGITS: usize = 2;
 
-// The longest beginning of a text that is a text number: its length, and its number, 5, or 8 where there is none and the length is 0.
+// The longest beginning of a text that is a text number: its length, and its number or 5; where there is none, length 0 and 8.
 pub struct Reading {
     pub used: usize,
     pub number: NumberAnswer,
@@ -142,7 +142,7 @@ fn is_digit(byte: u8) -> bool
     byte <= b'9'
 }
 
-// At most so many digits from a place on, behind a value already read.
+// At most so many digits from a place on: their count, and the value of start with these digits behind it.
 fn digit_run(text: &[u8], at: usize, most: usize, start: u64) -> DigitRun
     requires { ⌜ (at ≤ length (now text)) × DigitsFit start most ⌝ }
     ensures { λ r. ⌜ RunFound (drop at (now (text .entry))) most start (r .value) (r .count) ⌝ }
@@ -163,7 +163,7 @@ fn digit_run(text: &[u8], at: usize, most: usize, start: u64) -> DigitRun
     DigitRun { value, count }
 }
 
-// A point at a place and at most so many digits behind it, which go on a value already read.
+// A point at a place and at most so many digits behind it, which are appended to the value start; nothing if there is no point.
 fn fraction_at(text: &[u8], at: usize, most: usize, start: u64) -> Fraction
     requires { ⌜ (at ≤ length (now text)) × DigitsFit start most ⌝ }
     ensures { λ r. ⌜ FractionFound (drop at (now (text .entry))) most start (r .value) (r .count) (r .used) ⌝ }
@@ -275,7 +275,7 @@ pub fn legal_length(text: &[u8]) -> usize
     reading.used
 }
 
-// The number of a whole text: refused with 8 where it has not the form, with 5 where its exponent is outside its limits.
+// The number of a whole text: refused with 8 where it does not have the form, with 5 where its exponent is outside its limits.
 pub fn convert(text: &[u8]) -> NumberAnswer
     ensures { λ r. ⌜ numberMeaning r ≡ convertText (now (text .entry)) ⌝ }
 {

@@ -44,7 +44,7 @@ pub struct Unpacked {
     pub numbers: Numbers,
 }
 
-// The digits of a column as one whole number, or that some half is none.
+// All halves of a column behind its sign half as one whole number, or Bad where one is above 9.
 enum ColumnRun {
     Value(u64),
     Bad,
@@ -60,7 +60,7 @@ fn bad_half(column: usize) -> NumberAnswer
     })
 }
 
-// The bytes from a place on, two digits each, behind a value already read.
+// The value of start with the digits of the bytes from a place on behind it, two for each byte; Bad where a half is above 9.
 fn read_pairs(bytes: &[u8], from: usize, start: u64, worths: &[u8; 256]) -> ColumnRun
     requires { ⌜ (from ≤ length (now bytes)) × (length (now bytes) ≤ 9) × (start < 10) × IsWorths (now worths) ⌝ }
     ensures { λ r. ⌜ runMeaning r ≡ readOn start (halvesOf (drop from (now (bytes .entry)))) ⌝ }
@@ -78,7 +78,7 @@ fn read_pairs(bytes: &[u8], from: usize, start: u64, worths: &[u8; 256]) -> Colu
     ColumnRun::Value(value)
 }
 
-// All halves of a column behind its sign half, which are digits.
+// All halves of a column behind its sign half as one whole number; Bad where one is above 9.
 fn read_run(bytes: &[u8], signs: usize, worths: &[u8; 256]) -> ColumnRun
     requires { ⌜ (0 < length (now bytes)) × (length (now bytes) ≤ 9) × (signs ≤ 1) × IsWorths (now worths) ⌝ }
     ensures { λ r. ⌜ runMeaning r ≡ readOn 0 (drop signs (halvesOf (now (bytes .entry)))) ⌝ }
@@ -178,7 +178,7 @@ fn unpadded_number(image: Image, sign: u8, value: u64, column: usize) -> NumberA
     parts_number(image, sign, value, 0, column)
 }
 
-// The number of a sign half and of all the digits behind it; the padding is a 0.
+// The number of a sign half and of all the digits behind it; refused with 7 if there is a pad that is not 0.
 fn run_number(image: Image, sign: u8, value: u64, column: usize) -> NumberAnswer
     requires { ⌜ (hashes image ≤ precision) × (value < runLimit) ⌝ }
     ensures { λ r. ⌜ numberMeaning r ≡ runNumber column image sign value ⌝ }

@@ -3,7 +3,7 @@
 // The worth of a byte that has a half above 9.
 pub(crate) const NO_WORTH: u8 = 255;
 
-// Ten times the high half plus the low half, for each byte.
+// Ten times the high half plus the low half, for each byte; NO_WORTH where a half is above 9.
 pub(crate) const WORTHS: [u8; 256] = [
     0,
     1,

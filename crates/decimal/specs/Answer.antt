@@ -10,7 +10,7 @@ pub data Answer (A : Type 0) : Type 0 where
   done : A → Answer A
   refused : ℕ → ℕ → Answer A
 
--- the first refusal, else what the second step makes of the first one's result: the order of refusals reads off a definition
+-- the first refusal, else what the second step makes of the first one's result: a definition shows the order of its refusals
 unfoldable pub _then_ : {A B : Type 0} → Answer A → (A → Answer B) → Answer B
 done a then f = f a
 refused number place then f = refused number place

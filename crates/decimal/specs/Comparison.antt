@@ -14,7 +14,7 @@ use Rattle.decimal.specs.Number.{magnitude, checkNumber}
 unfoldable pub wholeOrder : ℕ → ℕ → Order
 wholeOrder a b = pick (ltb a b) Less (pick (ltb b a) Greater Equal)
 
--- the order of two values, each a sign (true for minus) and a magnitude: a minus value is less than any other;
+-- the order of two values, each a sign (true for minus) and a magnitude: a minus value is less than a plus value;
 -- of two minus values the one with the larger magnitude is less
 unfoldable pub signedOrder : Bool → Bool → ℕ → ℕ → Order
 signedOrder true false a b = Less
@@ -30,7 +30,7 @@ valueOrder a b = signedOrder (a .negative) (b .negative) (magnitude a) (magnitud
 unfoldable pub comparison : Number → Number → Answer Order
 comparison a b = checkNumber 0 a then λ _. (checkNumber 1 b then λ _. done (valueOrder a b))
 
--- the order of two numbers the other way round
+-- the order of the same two numbers exchanged
 abbrev pub opposite : Order → Order
 opposite Less = Greater
 opposite Equal = Equal

@@ -19,7 +19,7 @@ unfoldable pub digitsOf : ℕ → ℕ → List ℕ
 digitsOf zero k = []
 digitsOf (suc n) k = k / 10 ^ n % 10 ∷ digitsOf n k
 
--- the whole number that digits are written for
+-- the whole number that digits stand for
 unfoldable pub valueOf : List ℕ → ℕ
 valueOf [] = 0
 valueOf (d ∷ ds) = d * 10 ^ length ds + valueOf ds

@@ -94,7 +94,7 @@ pub data State : Type 0 where
   Fraction : Bool → State
   -- the count of 5E bytes behind the # signs; an image has four of them
   Up : ℕ → State
-  -- no field begins so
+  -- no field begins with the bytes read
   Stopped : State
 
 -- the state that each of the code's states stands for: the code has a state of its own for each flag and each count
@@ -158,7 +158,7 @@ afterComma (Fraction g) = Stopped
 afterComma (Up n) = Stopped
 afterComma Stopped = Stopped
 
--- after the first 5E byte behind # signs: a field with a comma is fixed point
+-- after the first 5E byte behind # signs: a field with a comma can't be exponential
 abbrev pub firstUp : Bool → State
 firstUp grouped = pick grouped Stopped (Up 1)
 
@@ -200,7 +200,7 @@ isImage (Fraction g) = not g
 isImage (Up n) = eqb n ups
 isImage Stopped = false
 
--- a # before the point was last
+-- whether the last byte is a # before the point
 abbrev pub integerHash : State → Bool
 integerHash Start = false
 integerHash Signed = false
@@ -211,7 +211,7 @@ integerHash (Fraction g) = false
 integerHash (Up n) = false
 integerHash Stopped = false
 
--- a # behind the point was last
+-- whether the last byte is a # behind the point
 abbrev pub fractionHash : State → Bool
 fractionHash Start = false
 fractionHash Signed = false
@@ -222,7 +222,7 @@ fractionHash (Fraction g) = true
 fractionHash (Up n) = false
 fractionHash Stopped = false
 
--- a 5E was last
+-- whether the last byte is a 5E
 abbrev pub isExponential : State → Bool
 isExponential Start = false
 isExponential Signed = false
@@ -233,7 +233,7 @@ isExponential (Fraction g) = false
 isExponential (Up n) = true
 isExponential Stopped = false
 
--- one more where a byte counts
+-- one more where the test holds
 abbrev pub counted : Bool → ℕ → ℕ
 counted true n = suc n
 counted false n = n

@@ -48,7 +48,7 @@ exponentOutside im n =
     false
     (pick (ltb (n .exponent + 1) (im .integer)) true (ltb (2 * exponentLimit) (placedExponent im n)))
 
--- the stored exponent x, as x + exponentLimit: zero has x = 0; fixed point stores none, here 0
+-- the stored exponent x, as x + exponentLimit: zero has x = 0; fixed point stores none, here x = 0
 unfoldable pub storedExponent : Image → Number → ℕ
 storedExponent im n =
     pick (eqb (n .mantissa) 0) exponentLimit (pick (im .exponential) (placedExponent im n) exponentLimit)

@@ -8,7 +8,7 @@ use crate::number::NOT_NORMAL;
 use crate::number::Number;
 use crate::refusal::Refusal;
 
-// How a value stands to another one.
+// The order of two values: the first is less, equal or greater.
 pub enum Order {
     Less,
     Equal,
@@ -61,7 +61,7 @@ fn value_order(first: Number, second: Number) -> Order
     magnitude_order(first, second)
 }
 
-// The order of the magnitudes of two numbers in normal form: zero, then the exponents, then the mantissas decide.
+// The order of the magnitudes of two numbers in normal form: zero is least; else the exponents decide, then the mantissas.
 fn magnitude_order(first: Number, second: Number) -> Order
     requires { ⌜ (normal first ≡ true) × (normal second ≡ true) ⌝ }
     ensures { λ r. ⌜ r ≡ wholeOrder (magnitude first) (magnitude second) ⌝ }

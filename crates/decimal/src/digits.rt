@@ -6,7 +6,7 @@ ghost use Rattle.decimal.specs.Digits.{precision, digitsOf, packedOf};
 // The digit count of a mantissa. Every bound on mantissas, images and text numbers derives from it.
 pub const PRECISION: usize = 13;
 
-// A mantissa is split in two parts, whose digits do not wait for one another: the last ones are so many.
+// A mantissa is split in two parts, whose digits are computed independently of each other; the second part has so many.
 const LOW_DIGITS: usize = 7;
 
 // Ten to the power of LOW_DIGITS.

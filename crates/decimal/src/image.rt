@@ -46,7 +46,7 @@ pub struct Image {
     pub exponential: bool,
 }
 
-// An image, or why the bytes are none.
+// An image, or why the bytes are no image.
 pub enum ImageAnswer {
     Image(Image),
     Refused(Refusal),
@@ -58,7 +58,7 @@ pub enum State {
     Start,
     // A sign.
     Signed,
-    // # signs and no point, a # last.
+    // # signs with no comma and no point, a # last.
     Integer,
     // As Integer, with a comma among the # signs.
     Grouped,
@@ -68,7 +68,7 @@ pub enum State {
     Point,
     // As Point, with a comma before the point.
     GroupedPoint,
-    // # signs behind a point.
+    // # signs behind a point, no comma before it.
     Fraction,
     // As Fraction, with a comma before the point.
     GroupedFraction,
@@ -80,7 +80,7 @@ pub enum State {
     ThirdUp,
     // The four 5E bytes of an exponential image.
     Exponential,
-    // No field begins so.
+    // No field begins with the bytes read.
     Stopped,
 }
 
@@ -149,7 +149,7 @@ fn after_comma(state: State) -> State
     }
 }
 
-// The state after a 5E byte; a field with a comma is fixed point.
+// The state after a 5E byte; a field with a comma can't be exponential.
 fn after_up(state: State) -> State
     ensures { λ r. ⌜ stateOf r ≡ afterUp (stateOf state) ⌝ }
 {
@@ -192,7 +192,7 @@ pub fn fraction_hash(state: State) -> usize
     }
 }
 
-// Whether a state says that the last byte is a 5E.
+// Whether the last byte is a 5E; for the state of an image, whether the image is exponential.
 pub fn is_exponential(state: State) -> bool
     ensures { λ r. ⌜ r ≡ isExponential (stateOf state) ⌝ }
 {
@@ -202,7 +202,7 @@ pub fn is_exponential(state: State) -> bool
     }
 }
 
-// The sign that a byte is.
+// The sign that a byte is; Unsigned for any other byte.
 pub fn sign_of(byte: u8) -> Sign
     ensures { λ r. ⌜ r ≡ signOf byte ⌝ }
 {
@@ -258,7 +258,7 @@ fn step_length(bytes: &[u8], at: usize) -> usize
     if run == 0 { 1 } else { run }
 }
 
-// What the machine has read of bytes: its last state, and the # signs that it saw.
+// What the machine has read of bytes: its last state, and the counts of # before and behind the point.
 fn scan_bytes(bytes: &[u8]) -> Scan
     ensures { λ r. ⌜ Scanned (now (bytes .entry)) r ⌝ }
 {

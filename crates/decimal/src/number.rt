@@ -32,7 +32,7 @@ pub const EXPONENT_OUTSIDE: u8 = 5;
 // The smallest mantissa of a nonzero number is 10^LOW_EXPONENT.
 const LOW_EXPONENT: usize = PRECISION - 1;
 
-// That power, as a product by the exponent's binary digits: a constant's value has no call. The exponent is below 16.
+// That power, as a product over the binary digits of LOW_EXPONENT, which is below 16: a constant's value can't have a call.
 const MANTISSA_LOW: u64 = [1, 10][LOW_EXPONENT & 1]
     * [1, 100][LOW_EXPONENT >> 1 & 1]
     * [1, 10_000][LOW_EXPONENT >> 2 & 1]
@@ -179,13 +179,13 @@ fn refused(number: u8, place: usize) -> NumberAnswer
     NumberAnswer::Refused(Refusal { number, place })
 }
 
-// A whole number times ten to the power of zeros.
+// A whole number multiplied by a power of ten: the product, and the exponent of that power.
 struct Shifted {
     mantissa: u64,
     zeros: usize,
 }
 
-// Shifts a number by count digits where at least count zeros stand before it, written with PRECISION digits.
+// Multiplies a number by 10^count if, written with PRECISION digits, it begins with at least count zeros; else leaves it.
 fn shift_past(number: Shifted, count: usize) -> Shifted
     requires { ⌜ (count ≤ precision) × (number .zeros ≤ precision) ⌝ }
     ensures { λ r. ⌜ r ≡ shiftPast count number ⌝ }

@@ -37,7 +37,7 @@ use crate::refusal::Refusal;
 // Refusal 4: the number exceeds the image.
 pub const EXCEEDS: u8 = 4;
 
-// A number truncated under an image. The field x holds x + EXPONENT_LIMIT, where x is document 01's stored exponent; it is 0 in fixed point.
+// A number truncated under an image. The field x holds x + EXPONENT_LIMIT, where x is document 01's stored exponent; in fixed point x is 0.
 // The image's n digits are the last n half bytes of halves, the first digit highest. Where the answer is a refusal the truncation is that
 // of zero.
 pub struct Truncation {
@@ -153,7 +153,7 @@ fn is_signed(sign: Sign) -> bool
     }
 }
 
-// The stored exponent of a number that fits an image, plus EXPONENT_LIMIT; it is 0 in fixed point and for zero.
+// The stored exponent x of a number that fits an image, plus EXPONENT_LIMIT; x is 0 in fixed point and for zero.
 fn stored_exponent(image: Image, number: Number) -> usize
     requires { ⌜ Fit image number ⌝ }
     ensures { λ r. ⌜ r ≡ storedExponent image number ⌝ }

@@ -78,7 +78,7 @@ shownIn field im t = shownMarked documentMarks field im t
 abbrev pub numberIn : List ℕ → Number → Answer (List ℕ)
 numberIn field n = numberMarked documentMarks field n
 
--- such a number prints the field's own bytes, and counts as spilled
+-- a number that is refused in a field prints the field's own bytes, and counts as spilled
 unfoldable pub orField : List ℕ → Answer (List ℕ) → List ℕ
 orField field (done bytes) = bytes
 orField field (refused number place) = field
@@ -91,7 +91,7 @@ spilledBy (refused number place) = 1
 unfoldable pub textIn : List ℕ → List ℕ → List ℕ
 textIn field text = filled (length field) blankByte text
 
--- an element in a field, and whether it is spilled
+-- the bytes of an element in a field, and 1 if it is spilled, else 0
 unfoldable pub elementBytes : List ℕ → List ℕ → Element → List ℕ
 elementBytes texts field (element.Number n) = orField field (numberIn field n)
 elementBytes texts field (element.Text start size) = textIn field (take size (drop start texts))
@@ -127,7 +127,7 @@ pub record Fillable (im : Image) (t : Truncation) (fill : Fill) (byte : ℕ) : T
   pub held : Held im t
   pub left : byte ≡ hashByte → fill .used < hashes im
 
--- what the code knows of a byte that it fills: the digit for a #, the sign, and whether a digit or the point was shown behind it
+-- what the code knows of a byte that it fills: the digit for a #, the sign, and whether a digit or the point was shown up to and with it
 pub record Filled (im : Image) (t : Truncated) (fill : Fill) (digit : ℕ) (negative shown : Bool) (byte : ℕ) : Type 0 where
   pub digits : byte ≡ hashByte → digit ≡ nextDigit im t fill
   pub signed : negative ≡ t .negative

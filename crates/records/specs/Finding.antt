@@ -36,7 +36,7 @@ fieldsAt line place = fieldsFrom place 0 (drop place line)
 abbrev pub lineFields : List ℕ → List Field
 lineFields line = fieldsAt line 0
 
--- the most fields that a print call comes to
+-- the most fields that a print call uses
 abbrev pub maxFields : ℕ
 maxFields = maxElements + 1
 
@@ -51,7 +51,7 @@ noField =
 
 -- What the code's helpers find.
 
--- no field begins with a byte
+-- no field begins with this byte, whatever is behind it
 unfoldable pub LiteralAlways : ℕ → Type 0
 LiteralAlways byte = (behind : List ℕ) → fieldLength (byte ∷ behind) ≡ 0
 

@@ -13,7 +13,7 @@ hashes# n = times n hashByte
 pub ups↑ : ℕ → List ℕ
 ups↑ n = times n upByte
 
--- the lines, one field each
+-- the lines, one entry of this record each
 pub record KnownFields : Type 0 where
   -- #,###↑↑↑↑: a field with a comma is fixed point
   pub comma-no-ups : fieldLength (hashes# 1 ++ (commaByte ∷ (hashes# 3 ++ ups↑ ups))) ≡ 5

@@ -157,7 +157,7 @@ lineChecks line es room =
 abbrev pub textOutside : ℕ
 textOutside = 0x0D
 
--- the places that a walk over literal bytes and fields comes to, from a line's start on
+-- the places reached from a line's start by passing literal bytes and whole fields
 pub data Reached (line : List ℕ) : ℕ → Type 0 where
   atStart : Reached line 0
   afterLiteral : {j k : ℕ} → Reached line j → j < length line → fieldLength (drop j line) ≡ 0 → k ≡ j + 1 → Reached line k

@@ -1,4 +1,4 @@
--- Document 01, Print lines: the elements of a line that are spilled, and how many they are. Nothing here goes by what `printFrom` counts.
+-- Document 01, Print lines: the elements of a line that are spilled, and how many they are. Nothing here uses what `printFrom` counts.
 use Prim.Native.Nat.{ℕ, _+_}
 use mathlib.Core.List.{List, [], _∷_}
 use mathlib.Core.Bool.{Bool, false}

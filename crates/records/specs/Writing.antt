@@ -6,7 +6,7 @@ use Rattle.decimal.specs.Answer.{pick}
 use Rattle.decimal.specs.Digits.{digitsOf}
 use Rattle.codec.specs.Alpha.{digitBytes}
 
--- the digits of the largest whole number that the code holds: below 2^64
+-- how many digits the largest whole number that the code holds has: it is below 2^64
 abbrev pub wholeDigits : ℕ
 wholeDigits = 20
 

@@ -103,7 +103,7 @@ fn digit_for(image: Image, truncation: Truncation, fill: Fill, byte: u8) -> u8
     0
 }
 
-// What was filled behind a byte of the field.
+// What is filled when a byte of the field is done.
 fn fill_next(image: Image, digit: u8, fill: Fill, byte: u8) -> Fill
     requires { ⌜ (hashes image ≤ precision) × (byte ≡ hashByte → fill .used < hashes image) ⌝ }
     ensures { λ r. ⌜ ((t : Truncated) → (byte ≡ hashByte → digit ≡ nextDigit image t fill) → r ≡ fillNext image t fill byte) ⌝ }
@@ -121,7 +121,7 @@ fn fill_next(image: Image, digit: u8, fill: Fill, byte: u8) -> Fill
     }
 }
 
-// What stands for a byte of the field, behind which a digit or the point was shown or not.
+// The byte printed for a byte of the field; shown says whether a digit or the point was shown up to and with this byte.
 fn fill_byte(digit: u8, negative: bool, marks: Marks, shown: bool, byte: u8) -> u8
     requires { ⌜ digit < 10 ⌝ }
     ensures { λ r. ⌜ ((image : Image) (t : Truncated) (fill : Fill) → Filled image t fill digit negative shown byte → r ≡ fillByte marks image t fill byte) ⌝ }
@@ -274,7 +274,8 @@ pub(crate) fn write_element(
 // The most bytes that a text number with no blank has: PRECISION digits, a sign, a point, and E with a sign and two digits.
 const TEXT_ROOM: usize = PRECISION + 6;
 
-// A field read back under marks: without them, the whole of what is left converted; refused with 8 or 5.
+// A field read back under marks: blanks, filling bytes and thousands marks dropped, the decimal mark taken for the point, and all that is
+// left converted; refused with 8 or 5.
 fn read_marked(field: &[u8], marks: Marks) -> NumberAnswer
     ensures { λ r. ⌜ numberMeaning r ≡ readMarked marks (now (field .entry)) ⌝ }
 {

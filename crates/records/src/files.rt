@@ -64,7 +64,7 @@ pub fn write_contents(contents: &[u8], buffer: &mut [u8]) -> WriteAnswer
     WriteAnswer::Written(contents.len())
 }
 
-// The contents of a file: refused as the contents is, then with 11 where a last body is cut short.
+// The contents of a file: refused as the contents is, then with 11 where a last body is incomplete.
 pub(crate) fn read_file(file: &[u8]) -> Contents
     ensures { λ r. ⌜ r ≡ contentsOf (readFile (now (file .entry))) ⌝ }
 {

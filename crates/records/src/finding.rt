@@ -20,7 +20,7 @@ use decimal::Sign;
 use decimal::TOO_MANY_DIGITS;
 use decimal::sign_of;
 
-// The most fields of a line that a print call comes to: those of its elements, and one that it ends before.
+// The most fields of a line that a print call uses: those of its elements, and one that it ends before.
 pub(crate) const FIELDS: usize = ELEMENTS + 1;
 
 // A field of a line: its start, its length and its image.
@@ -49,7 +49,7 @@ pub(crate) struct Fields {
     pub count: usize,
 }
 
-// Whether a field can begin with a byte.
+// Whether a field can begin with this byte.
 fn begins(byte: u8) -> bool
     ensures { λ r. ⌜ (r ≡ false → LiteralAlways byte) ⌝ }
 {

@@ -29,10 +29,10 @@ use decimal::Refusal;
 // The most bytes of a file that the listing program takes.
 pub const FILE_LENGTH: usize = 65536;
 
-// The most bytes that a report has.
+// A report has at most so many bytes.
 pub const REPORT_LENGTH: usize = 4 * FILE_LENGTH + 64;
 
-// The bytes of a line with a word of 7 bytes, a blank and a count, without the count's digits.
+// The bytes of a line with a word of 7 bytes, a blank, a count and 0A, without the count's digits.
 const COUNT_LINE: usize = 9;
 
 // The answer of a call whose answer is longer than the buffer.
@@ -133,7 +133,7 @@ fn write_count(word: &[u8], value: usize, buffer: &mut [u8], from: usize) -> usi
     end + 1
 }
 
-// Whether so many lines of a length, and other bytes, are longer than a room.
+// Whether so many lines of a length, and other bytes, are more bytes than a buffer has.
 fn is_longer(lines: usize, length: usize, others: usize, room: usize) -> bool
     requires { ⌜ 0 < length ⌝ }
     ensures { λ r. ⌜ r ≡ ltb room (others + lines * length) ⌝ }

@@ -89,7 +89,7 @@ fn check_element(element: Element, room: usize, index: usize) -> CheckAnswer
     }
 }
 
-// 1 where an element is spilled by a field with an image, else 0.
+// 1 where an element is spilled by a field with this image, else 0.
 fn spill(image: Image, element: Element) -> usize
     ensures { λ r. ⌜ ((field : List ℕ) → image ≡ scannedImage field → r ≡ elementSpills field element) ⌝ }
 {

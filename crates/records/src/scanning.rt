@@ -1,4 +1,4 @@
-// Finding the fields of a line image (document 01: Print lines).
+// The field that starts at a place of a line image (document 01: Print lines).
 ghost use mathlib.Core.Path.{_≡_};
 ghost use lib.ListN.{drop};
 ghost use Rattle.decimal.specs.Image.{stateOf};
