@@ -8,7 +8,7 @@ use native.Mathlib.Numerals.{add-one}
 use lib.ListN.{length, take, drop, getD, set, length-append, length-drop, drop-of-length-le}
 use lib.Seq.{drop-cons, drop-drop, getD-take, length-take-le}
 use lib.Dec.{ltb, leb, eqb}
-use borrow.Author.Tests.{lt-ltb, le-ltb, ltb-false, leb-true, le-leb, lt-leb, eq-eqb, ne-eqb}
+use borrow.Author.Tests.{lt-ltb, le-ltb, ltb-false, leb-true, le-leb, lt-leb, eqb-true, eq-eqb, ne-eqb}
 use Rattle.decimal.specs.declared.image.Sign.{Sign}
 use Rattle.decimal.specs.declared.image.Sign.the-variants.{Unsigned, Plus, Minus}
 use Rattle.decimal.specs.declared.image.Image.{Image}
@@ -18,7 +18,7 @@ use Rattle.decimal.specs.Digits.{precision}
 use Rattle.decimal.specs.Image.{hashes, readImage}
 use Rattle.decimal.proofs.BoolLaws.{and-true}
 use Rattle.decimal.proofs.ImageLaws.{read-done}
-use Rattle.decimal.proofs.AnswerLaws.{never-done, then-done}
+use Rattle.decimal.proofs.AnswerLaws.{never-done, done-same, then-done}
 use Rattle.codec.specs.declared.contents.Contents.{Contents}
 use Rattle.decimal.specs.declared.refusal.CheckAnswer.the-variants as checks
 use Rattle.codec.specs.Lists.{filled, maxColumns, noImage}
@@ -129,17 +129,27 @@ contents-sound (count ∷ bytes) {table} h = go (leb 1 count && leb count maxCol
         (record { all = d .0; low = omega (arith, d .1); high = omega (arith, d .1) })
     go false t e = never-done e
 
--- and so is one lent alone
-pub alone-sound : (bytes : List ℕ) {table : Table} → readAlone bytes ≡ done table → Sound (table .images)
+-- a contents lent alone is read, and goes to the end of the bytes
+pub alone-told : (bytes : List ℕ) {table : Table} → readAlone bytes ≡ done table → (readContents bytes ≡ done table) × (table .size ≡ length bytes)
 unfolding readAlone
-alone-sound bytes {table} h =
+alone-told bytes {table} h =
     let b = then-done (readContents bytes) (λ (t : Table). pick (eqb (t .size) (length bytes)) (done t) (refused 11 0)) h in
-    let same = go (b .value) (eqb (b .value .size) (length bytes)) (b .second) in
-    subst (λ (t : Table). Sound (t .images)) same (contents-sound bytes (b .first))
+    go (b .value) (eqb (b .value .size) (length bytes)) refl (b .first) (b .second)
   where
-    go : (t : Table) (k : Bool) → pick k (done t) (refused 11 0) ≡ done table → t ≡ table
-    go t true e = cc
-    go t false e = never-done e
+    go :
+        (t : Table) (k : Bool)
+        → eqb (t .size) (length bytes) ≡ k
+        → readContents bytes ≡ done t
+        → pick k (done t) (refused 11 0) ≡ done table
+        → (readContents bytes ≡ done table) × (table .size ≡ length bytes)
+    go t true same reads e =
+        let this : t ≡ table = done-same e in
+        (reads ∙ e, ap (λ (x : Table). x .size) (sym this) ∙ eqb-true (t .size) (length bytes) same)
+    go t false same reads e = never-done e
+
+-- so it is sound too
+pub alone-sound : (bytes : List ℕ) {table : Table} → readAlone bytes ≡ done table → Sound (table .images)
+alone-sound bytes h = contents-sound bytes (alone-told bytes h .0)
 
 -- a contents that is read has such images
 pub alone-checked : (bytes : List ℕ) {table : Table} → readAlone bytes ≡ done table → AllChecked (table .images)

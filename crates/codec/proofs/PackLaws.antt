@@ -5,15 +5,16 @@ use mathlib.Core.List.{List}
 use mathlib.Core.Bool.{Bool, true, false}
 use mathlib.Core.Logic.{⊎-elim}
 use native.Mathlib.Omega.{arith}
+use lib.Dec.{eqb}
 use lib.ListN.{length, getD}
 use Rattle.decimal.specs.declared.image.Image.{Image}
 use Rattle.decimal.specs.declared.number.Number.{Number}
 use Rattle.decimal.specs.Answer.{Answer, done, refused, pick}
 use Rattle.decimal.specs.Number.{exponentLimit}
+use Rattle.decimal.specs.Image.{hashes}
 use Rattle.decimal.specs.Truncation.{Truncated, truncatedTo, truncation, packedTruncation, exceeds, exponentOutside, Fit, isSigned, storedExponent}
 use Rattle.decimal.proofs.TruncationLaws.{truncation-fit, packed-refused, packed-signed, packed-negative, packed-unsigned}
 use Rattle.decimal.proofs.DigitLaws.{le-or-lt}
-use Rattle.codec.specs.Columns.{Checked}
 use Rattle.codec.specs.Packing.AllPack.{none, one}
 use Rattle.codec.specs.Answers.{within}
 use Rattle.codec.specs.Packing.{PackConditions, PacksUnder, AllPack}
@@ -49,9 +50,18 @@ module _ (place : ℕ) (im : Image) (n : Number) where
 pub packs-fit : {im : Image} {n : Number} → PacksUnder im n → Fit im n
 packs-fit {im} {n} p = packed-fit 0 im n (p .truncated 0)
 
+-- fixed point stores no exponent
+fixed-stored : (im : Image) (n : Number) → im .exponential ≡ false → exponentLimit ≤ storedExponent im n
+unfolding storedExponent
+fixed-stored im n kind = rw kind (go (eqb (n .mantissa) 0))
+  where
+    go : (b : Bool) → exponentLimit ≤ pick b exponentLimit exponentLimit
+    go true = omega arith
+    go false = omega arith
+
 -- Published: a number packs under an image of a contents where the conditions hold.
-pub conditions-pack : {im : Image} {n : Number} → Checked im → PackConditions im n → PacksUnder im n
-conditions-pack {im} {n} checked p =
+pub conditions-pack : {im : Image} {n : Number} → 0 < hashes im → PackConditions im n → PacksUnder im n
+conditions-pack {im} {n} some p =
     record { to = truncatedTo im n; truncated = λ column. go column (isSigned (im .sign)) refl }
   where
     limits : (b : Bool) → im .exponential ≡ b → pick b (exponentOutside im n) (exceeds im n) ≡ false
@@ -61,24 +71,29 @@ conditions-pack {im} {n} checked p =
     fit : Fit im n
     fit =
         record {
-          nonempty = checked .nonempty;
-          size = checked .fits;
+          nonempty = some;
+          size = p .fits;
           number-checked = p .isNormal;
           within = limits (im .exponential) refl;
         }
 
     go : (column : ℕ) (b : Bool) → isSigned (im .sign) ≡ b → packedTruncation column im n ≡ done (truncatedTo im n)
     go column true e = packed-signed column im n fit e
-    go column false e = packed-unsigned column im n fit e (p .unsigned e)
+    go column false e = packed-unsigned column im n fit e (stored (im .exponential) refl)
+      where
+        stored : (b : Bool) → im .exponential ≡ b → exponentLimit ≤ storedExponent im n
+        stored true kind = p .unsigned kind e
+        stored false kind = fixed-stored im n kind
 
 -- Published: and only there.
 pub pack-conditions : {im : Image} {n : Number} → PacksUnder im n → PackConditions im n
 pack-conditions {im} {n} p =
     record {
+      fits = fit .size;
       isNormal = fit .number-checked;
       fixed = λ kind. subst (λ (b : Bool). pick b (exponentOutside im n) (exceeds im n) ≡ false) kind (fit .within);
       exponential = λ kind. subst (λ (b : Bool). pick b (exponentOutside im n) (exceeds im n) ≡ false) kind (fit .within);
-      unsigned = λ e. ⊎-elim (λ le. le) (λ lt. never e lt) (le-or-lt exponentLimit (storedExponent im n));
+      unsigned = λ _ e. ⊎-elim (λ le. le) (λ lt. never e lt) (le-or-lt exponentLimit (storedExponent im n));
     }
   where
     fit : Fit im n

@@ -1,18 +1,48 @@
 -- Document 01, Record file: the table of contents. A byte with the count of columns, then per column a length byte and the image.
-use Prim.Native.Nat.{ℕ, zero, suc, _+_}
-use mathlib.Core.List.{List, [], _∷_}
+use Prim.Native.Nat.{ℕ, zero, suc, _+_, _<_, _≤_}
+use mathlib.Core.Path.{_≡_}
+use mathlib.Core.List.{List, [], _∷_, _++_}
 use mathlib.Core.Bool.{_&&_}
 use lib.ListN.{length, take, drop}
 use lib.Dec.{ltb, leb, eqb}
 use Rattle.decimal.specs.declared.image.Image.{Image}
 use Rattle.decimal.specs.declared.refusal.CheckAnswer.the-variants as checks
 use Rattle.decimal.specs.Answer.{Answer, done, refused, _then_, pick}
-use Rattle.decimal.specs.Image.{checkImage, readImage}
+use Rattle.decimal.specs.Image.{imageBytes, hashes, checkImage, readImage}
 use Rattle.codec.specs.declared.contents.Contents.{Contents}
 use Rattle.codec.specs.declared.contents.ColumnAnswer.{ColumnAnswer}
 use Rattle.codec.specs.declared.contents.ColumnAnswer.the-variants as reads
 use Rattle.codec.specs.Lists.{filled, maxColumns, noImage}
 use Rattle.codec.specs.Columns.{bodySize}
+
+-- What a contents is, and its bytes.
+
+-- a column: a length byte and the image
+unfoldable pub entryBytes : Image → List ℕ
+entryBytes im = length (imageBytes im) ∷ imageBytes im
+
+-- the columns, in order
+unfoldable pub entriesBytes : List Image → List ℕ
+entriesBytes [] = []
+entriesBytes (im ∷ ims) = entryBytes im ++ entriesBytes ims
+
+-- the bytes of a contents: a byte with the count of columns, then the columns
+unfoldable pub contentsBytes : List Image → List ℕ
+contentsBytes ims = length ims ∷ entriesBytes ims
+
+-- at least one # stands in each image
+pub data AllImages : List Image → Type 0 where
+  none : AllImages []
+  more : {im : Image} {ims : List Image} → 0 < hashes im → AllImages ims → AllImages (im ∷ ims)
+
+-- "A contents is 1 to 16 images": bytes are a contents, and of these images
+pub record IsContents (bytes : List ℕ) (ims : List Image) : Type 0 where
+  pub rendered : bytes ≡ contentsBytes ims
+  pub low : 1 ≤ length ims
+  pub high : length ims ≤ maxColumns
+  pub each : AllImages ims
+
+-- Reading one. (The proofs' ContentsTheorem: what is read is exactly a contents of which no image is refused with 2.)
 
 -- a column at the front of bytes: 11 where the bytes end inside it, then 1 and 2 for its image
 unfoldable pub readColumn : ℕ → List ℕ → Answer Image

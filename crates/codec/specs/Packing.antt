@@ -17,7 +17,7 @@ use Rattle.decimal.specs.Image.{hashes}
 use Rattle.decimal.specs.Truncation.{isSigned, exceeds, exponentOutside, storedExponent, Truncated, packedTruncation}
 use Rattle.codec.specs.Answers.{within}
 use Rattle.codec.specs.Columns.{padCount}
-use Rattle.codec.specs.Contents.{readAlone, checkImages}
+use Rattle.codec.specs.Contents.{IsContents, readAlone, checkImages}
 use Rattle.codec.specs.Halves.{packHalves}
 
 -- |x|
@@ -76,23 +76,33 @@ packingUnder ims ns room = packUnder ims ns then within room
 unfoldable pub packing : List ℕ → List Number → ℕ → Answer (List ℕ)
 packing contents ns room = bodyOf contents ns then within room
 
--- When a list packs under the images of a contents, in document 01's words: the list has one number per column, each is in normal form,
--- no fixed-point magnitude exceeds its image, and each exponential x is from −99 to 99, and not negative under an unsigned image. (No
--- image of a contents that is read has over 13 # signs. The room in a buffer plays no part in this.)
+-- When a list packs, in document 01's words: "no image there is refused with 2, the list has one number per column, each is in normal
+-- form, no fixed-point magnitude exceeds its image, and each exponential x is from −99 to 99, and not negative under an unsigned image.
+-- The room in a buffer plays no part in this." (The proofs' PacksTheorem: exactly such a list has a body.)
 
+-- what a column asks of its image and its number
 pub record PackConditions (im : Image) (n : Number) : Type 0 where
+  -- the image is not refused with 2
+  pub fits : hashes im ≤ precision
   pub isNormal : normal n ≡ true
   pub fixed : im .exponential ≡ false → exceeds im n ≡ false
   pub exponential : im .exponential ≡ true → exponentOutside im n ≡ false
-  pub unsigned : isSigned (im .sign) ≡ false → exponentLimit ≤ storedExponent im n
+  pub unsigned : im .exponential ≡ true → isSigned (im .sign) ≡ false → exponentLimit ≤ storedExponent im n
 
-pub data Packs : List Image → List Number → Type 0 where
-  none : Packs [] []
+-- one number per column, and each column's conditions hold
+pub data PacksEach : List Image → List Number → Type 0 where
+  none : PacksEach [] []
   one :
       {im : Image} {n : Number} {ims : List Image} {ns : List Number}
       → PackConditions im n
-      → Packs ims ns
-      → Packs (im ∷ ims) (n ∷ ns)
+      → PacksEach ims ns
+      → PacksEach (im ∷ ims) (n ∷ ns)
+
+-- a list packs under a contents
+pub record Packs (contents : List ℕ) (ns : List Number) : Type 0 where
+  pub images : List Image
+  pub isContents : IsContents contents images
+  pub each : PacksEach images ns
 
 -- What the code's helpers ask and find.
 

@@ -2,7 +2,7 @@
 use Prim.Native.Nat.{ℕ, zero, suc, _+_, _<_, _≤_}
 use mathlib.Core.Path.{_≡_}
 use mathlib.Core.List.{List, [], _∷_, _++_}
-use lib.ListN.{length, drop}
+use lib.ListN.{length, take, drop}
 use lib.Dec.{eqb}
 use denote.Ref.{now}
 use Rattle.decimal.specs.declared.number.Number.{Number}
@@ -14,7 +14,7 @@ use Rattle.codec.specs.declared.walking.WalkAnswer.the-variants as gives
 use Rattle.codec.specs.declared.walking.Walked.{Walked}
 use Rattle.codec.specs.Lists.{filled, maxColumns}
 use Rattle.codec.specs.Alpha.{parted}
-use Rattle.codec.specs.Text.{readingIn, legalLength, readTexts}
+use Rattle.codec.specs.Text.{LongestForm, readingIn, legalLength, convertText, readTexts}
 
 -- how many bytes stand before the first place where a text number begins: all of them where there is none
 unfoldable pub bytesBefore : List ℕ → ℕ
@@ -63,6 +63,49 @@ numbersIn (suc left) index place bytes =
 -- all numbers of a text from a place on, up to 16
 unfoldable pub walking : List ℕ → ℕ → Walk
 walking text from = numbersIn maxColumns 0 from (drop from text)
+
+-- The numbers of a text apart from how they are found: from a place on, the text is cut into text numbers one behind the other, each the
+-- longest beginning of what is left that has the form; there are at most 16 of them. (The proofs' CutTheorem: `walking` gives exactly these.)
+
+-- each case of the code's answer: nothing is refused where the text ends; 8 where no text number begins; a number is refused as its text is,
+-- with its index for the place; 10 where there are more numbers than a list can have
+abbrev pub walkMeaning : WalkAnswer → Answer (Unit {0})
+walkMeaning gives.End = done tt
+walkMeaning gives.NoNumber = refused 8 0
+walkMeaning (gives.Refused r) = refused (r .number) (r .place)
+walkMeaning gives.TooMany = refused 10 0
+
+-- the longest beginning of bytes that has the form of a text number is so long, and converts so
+pub record Foremost (bytes : List ℕ) (size : ℕ) (number : Answer Number) : Type 0 where
+  pub some : 0 < size
+  pub longest : LongestForm bytes size
+  pub converts : convertText (take size bytes) ≡ number
+
+-- from a number's index and a place on: the numbers, the place where there is none more, and why
+pub data Cut (text : List ℕ) : ℕ → ℕ → List Number → ℕ → Answer (Unit {0}) → Type 0 where
+  -- the text ends there
+  ends : {index place : ℕ} → length text ≤ place → Cut text index place [] place (done tt)
+  -- no text number begins there
+  none : {index place : ℕ} → place < length text → LongestForm (drop place text) 0 → Cut text index place [] place (refused 8 0)
+  -- one begins there, and 16 stand before it
+  full :
+      {index place size : ℕ} {number : Answer Number}
+      → maxColumns ≤ index
+      → Foremost (drop place text) size number
+      → Cut text index place [] place (refused 10 0)
+  -- one begins there, and is refused
+  stops :
+      {index place size number other : ℕ}
+      → index < maxColumns
+      → Foremost (drop place text) size (refused number other)
+      → Cut text index place [] place (refused number index)
+  -- one begins there, and the others behind it
+  more :
+      {index place size stop : ℕ} {n : Number} {ns : List Number} {answer : Answer (Unit {0})}
+      → index < maxColumns
+      → Foremost (drop place text) size (done n)
+      → Cut text (suc index) (place + size) ns stop answer
+      → Cut text index place (n ∷ ns) stop answer
 
 -- the code's answer
 unfoldable pub walkedOf : Walk → Walked

@@ -1,14 +1,12 @@
 -- Demand 3 whole: the order and the equality of bodies, and the three ways of reading back. Assumes nothing.
-use Prim.Native.Nat.{ℕ, zero, suc, _+_, _<_, _≤_}
+use Prim.Native.Nat.{ℕ, zero, suc, _<_, _≤_}
 use native.Mathlib.Omega.{arith}
-use mathlib.Core.Path.{_≡_, refl, ap, _∙_}
-use mathlib.Core.Bool.{Bool, true, false}
+use mathlib.Core.Path.{_≡_, refl, ap, subst, _∙_}
+use mathlib.Core.Bool.{true}
 use mathlib.Core.List.{List, [], _∷_, append-nil}
 use lib.ListN.{length, drop-of-length-le}
 use lib.Seq.{take-length}
 use borrow.Author.Tests.{lt-ltb, le-ltb, le-leb, ne-eqb}
-use Rattle.decimal.specs.declared.image.Sign.{Sign}
-use Rattle.decimal.specs.declared.image.Sign.the-variants.{Unsigned, Plus, Minus}
 use Rattle.decimal.specs.declared.image.Image.{Image}
 use Rattle.decimal.specs.declared.number.Number.{Number}
 use Rattle.decimal.specs.Answer.{Answer, done, _then_}
@@ -18,13 +16,14 @@ use Rattle.decimal.specs.Image.{hashes, imageBytes, IsImage, scannedImage}
 use Rattle.decimal.specs.Truncation.{Truncated, truncation, numberOf, truncatedNumber}
 use Rattle.decimal.proofs.ImageLaws.{scanned-complete, reads-image}
 use Rattle.decimal.proofs.TruncationLaws.{truncation-fit}
-use Rattle.codec.specs.Columns.{signCount}
-use Rattle.codec.specs.Packing.{bodyOf}
-use Rattle.codec.specs.Order.{Truncations, none, one}
-use Rattle.codec.specs.Alpha.{alphaText, alphaUnder, alphaOf, alphaTexts, fractionLength, exponentLength, tailLength, textLength}
+use Rattle.codec.specs.Contents.{IsContents, Table}
+use Rattle.codec.specs.Packing.{Packs}
+use Rattle.codec.specs.Order.{AllUnsignedFixed, Truncations, none, one}
+use Rattle.codec.specs.Alpha.{alphaText, alphaUnder, alphaOf, alphaTexts}
 use Rattle.codec.specs.Text.{readTexts}
-use Rattle.decimal.proofs.AnswerLaws.{Both, then-done, then-both}
-use Rattle.codec.proofs.AlphaLaws.{image-length}
+use Rattle.decimal.proofs.AnswerLaws.{one-answer, Both, then-done, then-both}
+use Rattle.codec.proofs.ContentsTheorem.{image-short}
+use Rattle.codec.proofs.PacksTheorem.{packs-read, packs-contents}
 use Rattle.codec.proofs.AlphaForm.{alpha-back}
 use Rattle.codec.proofs.OrderTheorem.{contents-order, contents-equality}
 use Rattle.codec.proofs.ReadBackTheorem.{contents-read-back}
@@ -33,12 +32,10 @@ use Rattle.records.specs.Scanning.{fieldLength}
 use Rattle.records.specs.Fields.{shownIn, numberMarked, numberIn, orField, spilledBy, elementBytes, elementSpills, readField}
 use Rattle.records.specs.Printing.{maxLine, literals, firstField, behindField, hasField, Print, andThen, oneField, printFrom}
 use Rattle.records.specs.Printing.{checkFields, checkElement, checkElements, checkSome, checkCounts, printed}
-use Rattle.records.specs.Demand.{printField, printFields, readFields, NoneSpilled, ReadBack, Demand3}
+use Rattle.records.specs.Demand.{printField, printFields, readFields, NoneSpilled, ReadBack, Ordered, Demand3}
 use Rattle.records.specs.Demand as demand
 use Rattle.records.proofs.FieldTheorem.{image-field, image-whole}
 use Rattle.records.proofs.FieldBackTheorem.{field-back}
-
--- Answers in order.
 
 -- A line that is one field.
 
@@ -98,35 +95,6 @@ module _ (line : List ℕ) (whole : fieldLength line ≡ length line) (some : 0 
   whole-printed short few n plain {bytes} h =
       rw (le-leb (length line) maxLine short, field-passes line whole few, whole-has, plain)
       (ap {B = Answer Print} done (whole-from n h))
-
--- The length of an image.
-
--- a sign is at most one byte
-sign-short : (s : Sign) → signCount s ≤ 1
-sign-short Unsigned = omega arith
-sign-short Plus = omega arith
-sign-short Minus = omega arith
-
--- the point is one byte more
-fraction-short : (f : ℕ) → (f ≤ fractionLength f) × (fractionLength f ≤ 1 + f)
-unfolding fractionLength
-fraction-short zero = (omega arith, omega arith)
-fraction-short (suc f) = (omega arith, omega arith)
-
--- the exponent is four bytes
-exponent-short : (b : Bool) → exponentLength b ≤ 4
-unfolding exponentLength
-exponent-short true = omega arith
-exponent-short false = omega arith
-
--- an image has as many bytes as # signs or more, and at most six more
-image-short : (im : Image) → (hashes im ≤ length (imageBytes im)) × (length (imageBytes im) ≤ hashes im + 6)
-unfolding textLength tailLength
-image-short im =
-    let s = sign-short (im .sign) in
-    let f = fraction-short (im .fraction) in
-    let e = exponent-short (im .exponential) in
-    (omega (arith, image-length im, s, f .0, f .1, e), omega (arith, image-length im, s, f .0, f .1, e))
 
 -- The print field of a column.
 
@@ -219,27 +187,47 @@ shown-columns none =
     record { texts = []; written = refl; of-texts = refl; fields = []; shown = refl; none-spilled = demand.none; of-fields = refl }
 shown-columns (one h rest) = shown-column (h 0) (shown-columns rest)
 
--- what is read back of a list that packs
-list-back : (contents : List ℕ) (ns : List Number) {body : List ℕ} → bodyOf contents ns ≡ done body → ReadBack contents ns body
-list-back contents ns h =
-    let b = contents-read-back contents h in
-    let s = shown-columns (b .3) in
-    record {
-      table = b .0;
-      reads = b .1;
-      numbers = b .2;
-      truncated = b .3;
-      of-body = b .4;
-      texts = s .texts;
-      written = s .written;
-      of-texts = s .of-texts;
-      fields = s .fields;
-      shown = s .shown;
-      none-spilled = s .none-spilled;
-      of-fields = s .of-fields;
-      packs-again = b .5;
-    }
+module _ (contents : List ℕ) {ims : List Image} (is : IsContents contents ims) where
+  -- what is read back of a list that packs
+  list-back : (ns : List Number) → Packs contents ns → ReadBack contents ims ns
+  list-back ns packs =
+      let packed = packs-contents contents ns .0 packs in
+      let b = contents-read-back contents (packed .1) in
+      let same : b .0 .images ≡ ims = ap (λ (t : Table). t .images) (one-answer (b .1) (packs-read is packs)) in
+      let truncated = subst (λ (l : List Image). Truncations l ns (b .2)) same (b .3) in
+      let s = shown-columns truncated in
+      record {
+        body = packed .0;
+        packed = packed .1;
+        numbers = b .2;
+        truncated = truncated;
+        of-body = b .4;
+        texts = s .texts;
+        written = s .written;
+        of-texts = s .of-texts;
+        fields = s .fields;
+        shown = s .shown;
+        none-spilled = s .none-spilled;
+        of-fields = s .of-fields;
+        packs-again = packs-contents contents (b .2) .1 (packed .0, b .5);
+        same-body = b .5;
+      }
+
+  -- the order and the equality of two bodies
+  lists-ordered : AllUnsignedFixed ims → (ms ns : List Number) → Packs contents ms → Packs contents ns → Ordered contents ims ms ns
+  lists-ordered kinds ms ns p q =
+      let reads = packs-read is p in
+      let a = packs-contents contents ms .0 p in
+      let b = packs-contents contents ns .0 q in
+      record {
+        first = a .0;
+        packs-first = a .1;
+        second = b .0;
+        packs-second = b .1;
+        order = contents-order contents reads kinds ms ns (a .1) (b .1);
+        equality = contents-equality contents reads kinds ms ns (a .1) (b .1);
+      }
 
 -- Published: demand 3 holds.
 pub demand-3 : Demand3
-demand-3 = record { order = contents-order; equality = contents-equality; read-back = list-back }
+demand-3 = record { order = lists-ordered; read-back = list-back }

@@ -1,6 +1,6 @@
--- Demand 3 whole, over the definitions that the calls promise. A list packs under a contents where `bodyOf` is done: codec's
--- PacksTheorem shows that this is `Packs`, document 01's conditions. Document 01, "Packed bodies", "Alpha text" and "Print lines", says how
--- each of the three is read back.
+-- Demand 3 whole, over the definitions that the calls promise. A contents is `IsContents`, 1 to 16 images and their bytes, and a list packs
+-- under it where `Packs` holds, document 01's conditions; the body that it packs to is `bodyOf`. Document 01, "Packed bodies", "Alpha text"
+-- and "Print lines", says how each of the three is read back.
 use Prim.Native.Nat.{ℕ}
 use mathlib.Core.Path.{_≡_}
 use mathlib.Core.Logic.{_↔_}
@@ -11,8 +11,8 @@ use Rattle.decimal.specs.declared.number.Number.{Number}
 use Rattle.decimal.specs.Answer.{Answer, done, _then_}
 use Rattle.decimal.specs.Digits.{comesBefore}
 use Rattle.decimal.specs.Image.{imageBytes}
-use Rattle.codec.specs.Contents.{Table, readAlone}
-use Rattle.codec.specs.Packing.{bodyOf}
+use Rattle.codec.specs.Contents.{IsContents}
+use Rattle.codec.specs.Packing.{bodyOf, Packs}
 use Rattle.codec.specs.Unpacking.{unpacking}
 use Rattle.codec.specs.Order.{AllUnsignedFixed, truncatedMagnitudes, FirstSmaller, Truncations}
 use Rattle.codec.specs.Alpha.{alphaTexts}
@@ -24,6 +24,7 @@ use Rattle.records.specs.Printing.{Print, printed}
 -- Print fields: "A column's print field is its image printed as the only field of a line without literal bytes, its number being the
 -- only element; it is read back by dropping blanks and commas and converting the whole of what is left."
 
+-- the line is the image's own bytes as they stand in the contents (codec's ContentsTheorem, `column-image`)
 unfoldable pub printField : Image → Number → Answer Print
 printField im n = printed (imageBytes im) (element.Number n ∷ []) []
 
@@ -41,51 +42,55 @@ pub data NoneSpilled : List Print → Type 0 where
   none : NoneSpilled []
   more : {p : Print} {ps : List Print} → p .spilled ≡ 0 → NoneSpilled ps → NoneSpilled (p ∷ ps)
 
--- What is read back of a list and of the body that it packs to under a contents: `numbers` is the one same list.
-pub record ReadBack (contents : List ℕ) (given : List Number) (body : List ℕ) : Type 0 where
-  -- the contents is read
-  pub table : Table
-  pub reads : readAlone contents ≡ done table
+-- What is read back of a list under a contents of these images: `numbers` is the one same list.
+pub record ReadBack (contents : List ℕ) (ims : List Image) (given : List Number) : Type 0 where
+  -- the body that the list packs to
+  pub body : List ℕ
+  pub packed : bodyOf contents given ≡ done body
   pub numbers : List Number
   -- "In each column it has the truncation of the number given (of its magnitude if the image is unsigned)."
-  pub truncated : Truncations (table .images) given numbers
+  pub truncated : Truncations ims given numbers
   -- "the body"
   pub of-body : unpacking contents body ≡ done numbers
   -- "the alpha texts"
   pub texts : List (List ℕ)
-  pub written : alphaTexts (table .images) given ≡ done texts
+  pub written : alphaTexts ims given ≡ done texts
   pub of-texts : readTexts texts ≡ done numbers
   -- "and the print fields are read back as one same list"
   pub fields : List Print
-  pub shown : printFields (table .images) given ≡ done fields
+  pub shown : printFields ims given ≡ done fields
   pub none-spilled : NoneSpilled fields
   pub of-fields : readFields fields ≡ done numbers
   -- "That list packs again under the same contents, and to the same body."
-  pub packs-again : bodyOf contents numbers ≡ done body
+  pub packs-again : Packs contents numbers
+  pub same-body : bodyOf contents numbers ≡ done body
+
+-- What holds of two lists under a contents of unsigned fixed-point images.
+pub record Ordered (contents : List ℕ) (ims : List Image) (ms ns : List Number) : Type 0 where
+  -- the bodies that they pack to
+  pub first : List ℕ
+  pub packs-first : bodyOf contents ms ≡ done first
+  pub second : List ℕ
+  pub packs-second : bodyOf contents ns ≡ done second
+  -- "the first list's body comes before the second's exactly when the truncated magnitudes differ in some column and, in the first such
+  -- column, the first list's is smaller."
+  pub order : (comesBefore first second ≡ true) ↔ FirstSmaller (truncatedMagnitudes ims ms) (truncatedMagnitudes ims ns)
+  -- "The two bodies are equal exactly when no column differs."
+  pub equality : (first ≡ second) ↔ (truncatedMagnitudes ims ms ≡ truncatedMagnitudes ims ns)
 
 -- Demand 3, sentence by sentence.
 pub record Demand3 : Type 0 where
   -- "The order of packed bodies, byte by byte from the first, is the order of positions. For every contents of unsigned fixed-point
-  -- images and every two lists that pack under it, the first list's body comes before the second's exactly when the truncated magnitudes
-  -- differ in some column and, in the first such column, the first list's is smaller."
+  -- images and every two lists that pack under it, .."
   pub order :
-      (contents : List ℕ) {table : Table}
-      → readAlone contents ≡ done table
-      → AllUnsignedFixed (table .images)
-      → (ms ns : List Number) {a b : List ℕ}
-      → bodyOf contents ms ≡ done a
-      → bodyOf contents ns ≡ done b
-      → (comesBefore a b ≡ true) ↔ FirstSmaller (truncatedMagnitudes (table .images) ms) (truncatedMagnitudes (table .images) ns)
-  -- "The two bodies are equal exactly when no column differs."
-  pub equality :
-      (contents : List ℕ) {table : Table}
-      → readAlone contents ≡ done table
-      → AllUnsignedFixed (table .images)
-      → (ms ns : List Number) {a b : List ℕ}
-      → bodyOf contents ms ≡ done a
-      → bodyOf contents ns ≡ done b
-      → (a ≡ b) ↔ (truncatedMagnitudes (table .images) ms ≡ truncatedMagnitudes (table .images) ns)
+      (contents : List ℕ) {ims : List Image}
+      → IsContents contents ims
+      → AllUnsignedFixed ims
+      → (ms ns : List Number)
+      → Packs contents ms
+      → Packs contents ns
+      → Ordered contents ims ms ns
   -- "For every contents, whatever its images, and every list that packs under it, the body, the alpha texts and the print fields are read
   -- back as one same list. In each column it has the truncation of the number given (of its magnitude if the image is unsigned). That
   -- list packs again under the same contents, and to the same body."
-  pub read-back : (contents : List ℕ) (ns : List Number) {body : List ℕ} → bodyOf contents ns ≡ done body → ReadBack contents ns body
+  pub read-back : (contents : List ℕ) {ims : List Image} → IsContents contents ims → (ns : List Number) → Packs contents ns → ReadBack contents ims ns
