@@ -15,10 +15,11 @@ use Rattle.decimal.specs.declared.image.Sign.{Sign}
 use Rattle.decimal.specs.declared.image.Sign.the-variants.{Unsigned, Plus, Minus}
 use Rattle.decimal.specs.declared.image.Image.{Image}
 use Rattle.decimal.specs.Answer.{Answer, done, refused, _then_, pick}
+use Rattle.decimal.specs.Digits.{precision}
 use Rattle.decimal.specs.Image.{plusByte, minusByte, hashByte, pointByte, upByte, ups, signBytes, times, fractionBytes, upBytes, imageBytes, hashes, IsImage, readImage}
 use Rattle.decimal.proofs.BoolLaws.{and-true}
-use Rattle.decimal.proofs.AnswerLaws.{never-done, then-done}
-use Rattle.decimal.proofs.ImageLaws.{read-done, reads-image, image-unique}
+use Rattle.decimal.proofs.AnswerLaws.{never-done, then-done, then-refused}
+use Rattle.decimal.proofs.ImageLaws.{read-done, reads-image, reads-too-many, image-unique}
 use Rattle.codec.specs.Lists.{maxColumns, noImage}
 use Rattle.codec.specs.Columns.{Checked, AllChecked, none, more}
 use Rattle.codec.specs.Contents.{entryBytes, entriesBytes, contentsBytes, AllImages, IsContents}
@@ -26,7 +27,7 @@ use Rattle.codec.specs.Contents.{Table, readColumn, columnLength, readCo
 use Rattle.codec.specs.Order.{Bytes}
 use Rattle.codec.specs.Alpha.{fractionLength, tailLength, textLength, lineLength}
 use Rattle.codec.proofs.AlphaLaws.{fraction-few, exponent-few, image-length}
-use Rattle.codec.proofs.ContentsLaws.{sign-few, columns-checked, alone-told, alone-same}
+use Rattle.codec.proofs.ContentsLaws.{sign-few, columns-checked, contents-stopped, alone-told, alone-same}
 
 -- A column.
 
@@ -349,6 +350,56 @@ unfolding contentsBytes
 contents-unique {bytes} {ims} {others} a b =
     let same : length ims ∷ entriesBytes ims ≡ length others ∷ entriesBytes others = sym (a .rendered) ∙ b .rendered in
     entries-unique (a .each) (b .each) (cc) (cc)
+
+-- An image refused with 2.
+
+-- the first image of more than 13 # signs stands in this column
+pub data FirstMany : List Image → ℕ → Type 0 where
+  here : {im : Image} {ims : List Image} → precision < hashes im → FirstMany (im ∷ ims) 0
+  later : {im : Image} {ims : List Image} {i : ℕ} → hashes im ≤ precision → FirstMany ims i → FirstMany (im ∷ ims) (suc i)
+
+-- such a column is refused with 2
+entry-many : (im : Image) (rest : List ℕ) (column : ℕ) → 0 < hashes im → precision < hashes im → readColumn column (entryBytes im ++ rest) ≡ refused 2 column
+unfolding entryBytes
+entry-many im rest column some many =
+    let own = imageBytes im in
+    let is : IsImage own im = record { rendered = refl; nonempty = some } in
+    column-made column (length own) (own ++ rest) (omega (arith, length-append own rest))
+    ∙ ap (readImage column) (take-append-seam own rest)
+    ∙ reads-too-many column is many
+
+-- and so are the columns
+entries-many :
+    {ims : List Image} {i : ℕ}
+    → AllImages ims
+    → FirstMany ims i
+    → (column : ℕ) (rest : List ℕ)
+    → readColumns (length ims) column (entriesBytes ims ++ rest) ≡ refused 2 (column + i)
+unfolding readColumns entriesBytes _then_
+entries-many (AllImages.more {im} {ims} some others) (FirstMany.here many) column rest =
+    rw (append-assoc (entryBytes im) (entriesBytes ims) rest, entry-many im (entriesBytes ims ++ rest) column some many)
+    (ap (λ (n : ℕ). refused 2 n) (omega arith))
+entries-many (AllImages.more {im} {ims} some others) (FirstMany.later {i = i} few first) column rest =
+    let behind = entriesBytes ims ++ rest in
+    let c : Checked im = record { nonempty = some; fits = few } in
+    rw (
+      append-assoc (entryBytes im) (entriesBytes ims) rest,
+      entry-read im behind column c,
+      entry-behind im behind,
+      entries-many others first (suc column) rest,
+    )
+    (ap (λ (n : ℕ). refused 2 n) (omega arith))
+
+-- Published: a contents lent alone of which an image is refused with 2 is refused so, at the first such column.
+pub alone-many : {bytes : List ℕ} {ims : List Image} {i : ℕ} → IsContents bytes ims → FirstMany ims i → readAlone bytes ≡ refused 2 i
+unfolding contentsBytes readAlone
+alone-many {bytes} {ims} {i} is first =
+    let columns : readColumns (length ims) 0 (entriesBytes ims) ≡ refused 2 i =
+    ap (readColumns (length ims) 0) (sym (append-nil (entriesBytes ims)))
+    ∙ entries-many (is .each) first 0 []
+    ∙ ap (λ (n : ℕ). refused 2 n) (omega arith) in
+    then-refused _
+    (ap readContents (is .rendered) ∙ contents-stopped (length ims ∷ entriesBytes ims) (omega arith) (is .low) (is .high) columns)
 
 -- The bytes of a column.
 

@@ -13,10 +13,13 @@ use Rattle.decimal.proofs.AnswerLaws.{then-done, then-both}
 use Rattle.decimal.proofs.DigitLaws.{le-or-lt}
 use Rattle.codec.specs.Columns.{AllChecked}
 use Rattle.codec.specs.Contents.{AllImages, IsContents, Table, readAlone}
+use Rattle.codec.specs.Order.{Bytes}
+use Rattle.codec.specs.Unpacking.{unpacking}
 use Rattle.codec.specs.Packing.{PacksEach, Packs, AllPack, packList, bodyOf, packing}
 use Rattle.codec.proofs.ContentsTheorem.{alone-exactly, contents-unique}
 use Rattle.codec.proofs.PackLaws.{conditions-pack, pack-conditions}
 use Rattle.codec.proofs.BodyLaws.{packs-exactly}
+use Rattle.codec.proofs.ReadBackTheorem.{contents-accepts}
 use Rattle.codec.proofs.RoomTheorem.{within-done, longer-refused, none-refused, body-not-six}
 
 -- the conditions hold where each number is truncated to be packed
@@ -67,6 +70,16 @@ packs-contents contents ns = (there, back)
         let b = then-done (readAlone contents) (λ (table : Table). packList (table .images) ns) (packed .1) in
         let is = alone-exactly contents .0 (b .first) .isContents in
         record { images = b .value .images; isContents = is; each = packs-list (is .each) ns .1 (packed .0, b .second) }
+
+-- Published: a body is accepted under a contents exactly when some list of numbers packs to it there.
+pub packs-accepts :
+    (contents : List ℕ) {body : List ℕ}
+    → Bytes body
+    → ((ts : List Number) × (unpacking contents body ≡ done ts)) ↔ ((ns : List Number) × Packs contents ns × (bodyOf contents ns ≡ done body))
+packs-accepts contents {body} known = (
+  (λ r. let a = contents-accepts contents known .0 r in (a .0, packs-contents contents (a .0) .1 (body, a .1), a .1)),
+  (λ r. contents-accepts contents known .1 (r .0, r .2)),
+)
 
 -- whatever the room, a list that packs is refused with 6 or not at all
 pub packs-six : (contents : List ℕ) (ns : List Number) (room : ℕ) → Packs contents ns → {number place : ℕ} → packing contents ns room ≡ refused number place → number ≡ 6

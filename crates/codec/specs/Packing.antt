@@ -84,9 +84,13 @@ packing contents ns room = bodyOf contents ns then within room
 pub record PackConditions (im : Image) (n : Number) : Type 0 where
   -- the image is not refused with 2
   pub fits : hashes im ≤ precision
+  -- the number is in normal form
   pub isNormal : normal n ≡ true
+  -- a fixed-point magnitude does not exceed the image
   pub fixed : im .exponential ≡ false → exceeds im n ≡ false
+  -- an exponential x is from −99 to 99
   pub exponential : im .exponential ≡ true → exponentOutside im n ≡ false
+  -- and not negative under an unsigned image
   pub unsigned : im .exponential ≡ true → isSigned (im .sign) ≡ false → exponentLimit ≤ storedExponent im n
 
 -- one number per column, and each column's conditions hold
@@ -98,7 +102,7 @@ pub data PacksEach : List Image → List Number → Type 0 where
       → PacksEach ims ns
       → PacksEach (im ∷ ims) (n ∷ ns)
 
--- a list packs under a contents
+-- a list packs under a contents: the bytes are a contents, and the list packs under its images
 pub record Packs (contents : List ℕ) (ns : List Number) : Type 0 where
   pub images : List Image
   pub isContents : IsContents contents images

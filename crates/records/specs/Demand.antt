@@ -24,15 +24,17 @@ use Rattle.records.specs.Printing.{Print, printed}
 -- Print fields: "A column's print field is its image printed as the only field of a line without literal bytes, its number being the
 -- only element; it is read back by dropping blanks and commas and converting the whole of what is left."
 
--- the line is the image's own bytes as they stand in the contents (codec's ContentsTheorem, `column-image`)
+-- a column's print field; the line is the image's own bytes, as they stand in the contents (codec's ContentsTheorem, `column-image`)
 unfoldable pub printField : Image → Number → Answer Print
 printField im n = printed (imageBytes im) (element.Number n ∷ []) []
 
+-- the print fields of a list, each under its column's image
 unfoldable pub printFields : List Image → List Number → Answer (List Print)
 printFields [] ns = done []
 printFields (im ∷ ims) [] = done []
 printFields (im ∷ ims) (n ∷ ns) = printField im n then λ p. (printFields ims ns then λ ps. done (p ∷ ps))
 
+-- print fields read back, each by itself
 unfoldable pub readFields : List Print → Answer (List Number)
 readFields [] = done []
 readFields (p ∷ ps) = readField (p .bytes) then λ t. (readFields ps then λ ts. done (t ∷ ts))
