@@ -220,7 +220,7 @@ module _ {m : Marks} {im : Image} {t : Truncated} {field : List ℕ} {fill : Fil
 -- The # signs of a field.
 
 -- in two parts
-count-append : (xs ys : List ℕ) → hashCount (xs ++ ys) ≡ hashCount xs + hashCount ys
+pub count-append : (xs ys : List ℕ) → hashCount (xs ++ ys) ≡ hashCount xs + hashCount ys
 unfolding hashCount
 count-append [] ys = omega arith
 count-append (b ∷ xs) ys = omega (arith, count-append xs ys)

@@ -11,6 +11,7 @@ pub mod ReadFieldLaws
 pub mod StrayLaws
 pub mod FillLaws
 pub mod FieldBackTheorem
+pub mod FieldRuleTheorem
 pub mod CheckLaws
 pub mod FindLaws
 pub mod ForecastTheorem

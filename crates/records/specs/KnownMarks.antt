@@ -21,14 +21,14 @@ pub danish : Marks
 danish = record { decimal = commaByte; thousands = pointByte; filling = blankByte }
 
 -- the same with stars for suppressed zeros, and with an apostrophe between thousands
-pub starred : Marks
+unfoldable pub starred : Marks
 starred = record { decimal = commaByte; thousands = pointByte; filling = 0x2A }
 
 pub ticked : Marks
 ticked = record { decimal = commaByte; thousands = 0x27; filling = blankByte }
 
 -- #,###.#
-pub thousandsField : List ℕ
+unfoldable pub thousandsField : List ℕ
 thousandsField = hashByte ∷ (commaByte ∷ (times 3 hashByte ++ (pointByte ∷ (hashByte ∷ []))))
 
 -- −#.##↑↑↑↑

@@ -4,6 +4,8 @@ pub mod KnownFields
 pub mod Marks
 pub mod Fields
 pub mod KnownMarks
+pub mod FieldRule
+pub mod KnownRule
 pub mod Printing
 pub mod Finding
 pub mod Spilling
