@@ -14,7 +14,7 @@ use Rattle.codec.specs.Answers.{within}
 use Rattle.codec.specs.Alpha.{lineLength}
 use Rattle.decimal.proofs.AnswerLaws.{then-done}
 use Rattle.records.specs.Files.{readFile, recordCount}
-use Rattle.records.specs.Listing.{fileLines, listingOf, listing, maxFile, reportOf, checkedFile, linesOf}
+use Rattle.records.specs.Listing.{fileLines, listingOf, listing, maxFile, maxReport, reportOf, checkedFile, linesOf}
 use Rattle.codec.proofs.LineLaws.{line-bound}
 use Rattle.records.proofs.WritingLaws.{decimal-few}
 use Rattle.records.proofs.ReportLaws.{refusal-few, within-some, printed-few}
@@ -59,15 +59,15 @@ listing-bound file {bytes} h =
     omega (arith, ap length same, listed-bound l)
 
 -- Published: what the program prints is at most four times as long as the longest file, and 64 bytes.
-pub report-bound : (input : List ℕ) → length (reportOf input) ≤ 4 * maxFile + 64
+pub report-bound : (input : List ℕ) → length (reportOf input) ≤ maxReport
 report-bound input =
     ⊎-elim
     (λ few.
-    let printed = printed-few (4 * maxFile + 64) (omega arith) (listing input) (λ bytes h. omega (arith, listing-bound input h, few)) in
+    let printed = printed-few maxReport (omega arith) (listing input) (λ bytes h. omega (arith, listing-bound input h, few)) in
     omega (arith, ap length (report-short input few), printed))
     (λ many. omega (arith, ap length (report-long input many), refusal-few 11 0))
     (le-or-lt (length input) maxFile)
 
 -- Published: so a buffer of that length has room for it.
-pub report-fits : (input : List ℕ) (room : ℕ) → 4 * maxFile + 64 ≤ room → within room (reportOf input) ≡ done (reportOf input)
+pub report-fits : (input : List ℕ) (room : ℕ) → maxReport ≤ room → within room (reportOf input) ≡ done (reportOf input)
 report-fits input room h = within-some room (reportOf input) (omega (arith, report-bound input))

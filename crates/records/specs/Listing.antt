@@ -1,5 +1,5 @@
 -- Document 01, Record file: what the listing program prints.
-use Prim.Native.Nat.{ℕ}
+use Prim.Native.Nat.{ℕ, _+_, _*_}
 use mathlib.Core.Path.{_≡_}
 use mathlib.Core.List.{List, [], _∷_, _++_}
 use lib.ListN.{length}
@@ -72,6 +72,10 @@ refusalLine number place = refusedWord ++ (decimalText number ++ (blankByte ∷ 
 -- the most bytes of a file that the program takes: a longer one is refused with 11
 abbrev pub maxFile : ℕ
 maxFile = 65536
+
+-- the most bytes that the program prints
+abbrev pub maxReport : ℕ
+maxReport = 4 * maxFile + 64
 
 -- what the program prints of its answer
 unfoldable pub printedOf : Answer (List ℕ) → List ℕ

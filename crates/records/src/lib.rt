@@ -21,6 +21,7 @@ pub use listing::FILE_LENGTH;
 pub use listing::REPORT_LENGTH;
 pub use listing::list;
 pub use listing::report;
+pub use listing::report_length;
 pub use printing::ELEMENTS;
 pub use printing::ForecastAnswer;
 pub use printing::LINE_LENGTH;

@@ -9,7 +9,7 @@ ghost use Rattle.codec.specs.Lists.{maxColumns, imageList};
 ghost use Rattle.codec.specs.Contents.{contentsOf};
 ghost use Rattle.codec.specs.Unpacking.{unpackUnder, unpackedOf};
 ghost use Rattle.codec.specs.Alpha.{alphaTexts};
-ghost use Rattle.records.specs.Listing.{countLine, recordLine, listed, refusalLine, reportOf, checkedFile, linesOf, Listed, HasTexts};
+ghost use Rattle.records.specs.Listing.{countLine, recordLine, listed, refusalLine, maxReport, reportOf, checkedFile, linesOf, Listed, HasTexts};
 use crate::files::read_file;
 use crate::writing::decimal_length;
 use crate::writing::write_bytes;
@@ -31,6 +31,13 @@ pub const FILE_LENGTH: usize = 65536;
 
 // A report has at most so many bytes.
 pub const REPORT_LENGTH: usize = 4 * FILE_LENGTH + 64;
+
+// The constant REPORT_LENGTH.
+pub fn report_length() -> usize
+    ensures { λ r. ⌜ r ≡ maxReport ⌝ }
+{
+    REPORT_LENGTH
+}
 
 // The bytes of a line with a word of 7 bytes, a blank, a count and 0A, without the count's digits.
 const COUNT_LINE: usize = 9;
