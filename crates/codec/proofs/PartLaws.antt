@@ -37,7 +37,7 @@ digits-right (x ∷ xs) ys h = digits-right xs ys (h .1)
 -- Bytes.
 
 -- the byte of a digit is one
-digit-byte : (d : ℕ) → d < 10 → isDigit (zeroByte + d) ≡ true
+pub digit-byte : (d : ℕ) → d < 10 → isDigit (zeroByte + d) ≡ true
 digit-byte d h = rw (le-leb zeroByte (zeroByte + d) (omega arith), lt-ltb (zeroByte + d) (zeroByte + 10) (omega arith))
 
 -- bytes below those of digits are none

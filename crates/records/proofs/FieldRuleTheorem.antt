@@ -3,12 +3,11 @@
 -- Assumes nothing.
 use Prim.Native.Nat.{ℕ, zero, suc, _+_, _-_, _/_, _%_, _^_, _<_, _≤_}
 use native.Mathlib.Omega.{arith}
-use native.Mathlib.Numerals.{add-one}
 use native.Mathlib.Nat.{div-lt-iff-lt-mul, div-eq-of-lt, mod-eq-of-lt, le-div-iff-mul-le}
 use mathlib.Core.Path.{_≡_, refl, ap, sym, subst, subst⁻¹, _∙_}
 use mathlib.Core.Logic.{_⊎_, inl, inr, ⊎-elim}
-use mathlib.Core.List.{List, [], _∷_, _++_, append-nil, append-assoc}
-use mathlib.Core.Bool.{Bool, true, false, not, _&&_}
+use mathlib.Core.List.{List, [], _∷_, _++_, append-nil}
+use mathlib.Core.Bool.{Bool, true, false, not, _&&_, and-false}
 use borrow.Author.Tests.{eq-eqb, ne-eqb, lt-ltb, le-ltb}
 use lib.Dec.{ltb, eqb}
 use lib.ListN.{length, take, drop, getD, length-append, List·getD-append}
@@ -30,14 +29,14 @@ use Rattle.codec.proofs.FitLaws.{whole-size}
 use Rattle.records.specs.declared.marks.Marks.{Marks}
 use Rattle.records.specs.declared.fields.Element.the-variants as element
 use Rattle.records.specs.Marks.{documentMarks, withDecimal}
-use Rattle.records.specs.Scanning.{Field, IsField, runBytes, total, fieldBytes}
+use Rattle.records.specs.Scanning.{Field, IsField, runBytes, fieldBytes}
 use Rattle.records.specs.Fields.{suppressed, signByteOf, fillByte, fillNext, fillBytes, nothingFilled, shownMarked, numberMarked, orField, elementBytes, hashCount}
 use Rattle.records.specs.FieldRule.{integerZeros, hiddenDigits, withoutCommas, alphaBehind, ruleByte, bytesFrom, ruleBytes, numberByRule}
 use Rattle.records.proofs.FieldTheorem.{field-image}
 use Rattle.records.proofs.FieldLaws.{count-append, exponential-image}
 use Rattle.records.proofs.MarkLaws.{decimal-length, decimal-append, decimal-digits, decimal-sign}
 use Rattle.records.proofs.FillLaws.{soFar, elements, elements-before, elements-behind, Body, runs-body, times-body}
-use Rattle.records.proofs.FieldBackTheorem.{fieldImage}
+use Rattle.records.proofs.FieldBackTheorem.{fieldImage, in-field}
 
 -- The leading zeros among digits.
 
@@ -69,7 +68,7 @@ leading-digit (suc n) k below h =
 -- The rule, read along the field.
 
 -- what prints for the rest of a field, before which u # signs stand, where this is left of the alpha text
-unfoldable ruled : Marks → ℕ → ℕ → List ℕ → List ℕ → List ℕ
+unfoldable pub ruled : Marks → ℕ → ℕ → List ℕ → List ℕ → List ℕ
 ruled m hidden u [] text = []
 ruled m hidden u (b ∷ bs) text =
     pick (eqb b commaByte)
@@ -161,16 +160,28 @@ module _ (m : Marks) (im : Image) (t : Truncated) (field : List ℕ) where
       λ i. head i ∷ tail i
 
   -- and for the whole of it
-  rule-whole : ruleBytes m field im t ≡ ruled m (hiddenDigits im t) 0 field (withDecimal m (alphaText im t))
+  pub rule-whole : ruleBytes m field im t ≡ ruled m (hiddenDigits im t) 0 field (withDecimal m (alphaText im t))
   unfolding ruleBytes hashCount withoutCommas
   rule-whole = rule-rest [] field refl
 
--- What the machine writes.
+-- the byte at a position of a list that is made by position
+made-at : (byte : ℕ → ℕ) (start n p : ℕ) → p < n → getD (bytesFrom byte start n) p 0 ≡ byte (start + p)
+unfolding bytesFrom
+made-at byte start zero p h = absurd (omega arith)
+made-at byte start (suc n) zero h = let same : start ≡ start + 0 = omega arith in ap byte same
+made-at byte start (suc n) (suc p) h =
+    let same : suc start + p ≡ start + suc p = omega arith in made-at byte (suc start) n p (omega arith) ∙ ap byte same
 
--- no test holds with one that does not
-and-false : (b : Bool) → (b && false) ≡ false
-and-false true = refl
-and-false false = refl
+-- the rule for a position
+rule-at : (m : Marks) (im : Image) (t : Truncated) (field : List ℕ) (p : ℕ) → p < length field
+    → getD (ruleBytes m field im t) p 0 ≡ ruleByte m im t (take p field) (getD field p 0)
+unfolding ruleBytes
+rule-at m im t field p inside =
+    let byte : ℕ → ℕ = λ q. ruleByte m im t (take q field) (getD field q 0) in
+    let same : 0 + p ≡ p = omega arith in
+    made-at byte 0 (length field) p inside ∙ ap byte same
+
+-- What the machine writes.
 
 -- one number is not below another exactly where the other is below the next
 not-less : (u s : ℕ) → not (ltb u s) ≡ ltb s (u + 1)
@@ -356,7 +367,7 @@ module _ (m : Marks) (im : Image) (t : Truncated) (below : t .whole < 10 ^ hashe
   turns-sign Minus r text next = ap (λ (l : List ℕ). pick (t .negative) minusByte blankByte ∷ l) next
 
   -- the alpha text of a fixed-point image, with the decimal mark
-  text-parts : withDecimal m (alphaText im t)
+  pub text-parts : withDecimal m (alphaText im t)
       ≡ signText (im .sign) (t .negative)
       ++ (digitBytes (digitsOf (im .integer) (t .whole / 10 ^ im .fraction)) ++ withDecimal m (fractionText (im .fraction) (t .whole)))
   unfolding alphaText exponentText
@@ -389,7 +400,7 @@ module _ (m : Marks) (im : Image) (t : Truncated) (below : t .whole < 10 ^ hashe
 -- Fixed-point fields.
 
 -- a fixed-point field has no 5E bytes
-fixed-bytes : (f : Field) → f .exponential ≡ false → fieldBytes f ≡ signBytes (f .sign) ++ (runBytes (f .runs) ++ fractionBytes (f .fraction))
+pub fixed-bytes : (f : Field) → f .exponential ≡ false → fieldBytes f ≡ signBytes (f .sign) ++ (runBytes (f .runs) ++ fractionBytes (f .fraction))
 unfolding fieldBytes upBytes
 fixed-bytes f kind =
     let behind = fractionBytes (f .fraction) in
@@ -453,7 +464,7 @@ field-without-commas {field} {f} is = ap withoutCommas (is .rendered) ∙ withou
 -- Exponential fields.
 
 -- without its commas a field is not longer
-without-shorter : (bs : List ℕ) → length (withoutCommas bs) ≤ length bs
+pub without-shorter : (bs : List ℕ) → length (withoutCommas bs) ≤ length bs
 unfolding withoutCommas
 without-shorter [] = omega arith
 without-shorter (b ∷ bs) = go (eqb b commaByte) (without-shorter bs)
@@ -527,7 +538,7 @@ shown-by-rule m {field} is t below = go (scannedImage field .exponential) refl
     go false kind = fixed-shown m is t below kind
 
 -- a truncation has at most n digits
-truncation-below : (im : Image) (n : Number) {t : Truncated} → truncation 0 im n ≡ done t → t .whole < 10 ^ hashes im
+pub truncation-below : (im : Image) (n : Number) {t : Truncated} → truncation 0 im n ≡ done t → t .whole < 10 ^ hashes im
 unfolding truncatedTo
 truncation-below im n h = subst⁻¹ (λ (t : Truncated). t .whole < 10 ^ hashes im) (truncation-done 0 im n h) (whole-size im n (truncation-fit 0 im n h))
 
@@ -541,8 +552,25 @@ number-by-rule m {field} is n = go (truncation 0 (scannedImage field) n) refl
     go (done t) e = ap done (shown-by-rule m is t (truncation-below (scannedImage field) n e))
     go (refused number place) e = refl
 
+-- Published: the bytes of a number that is not spilled.
+pub bytes-by-rule : (m : Marks) {field : List ℕ} {f : Field} → IsField field f → (n : Number) {bytes : List ℕ}
+    → (h : numberMarked m field n ≡ done bytes)
+    → bytes ≡ ruleBytes m field (scannedImage field) (in-field m field n h .to)
+bytes-by-rule m {field} is n h =
+    let t = in-field m field n h in
+    t .bytes-are ∙ shown-by-rule m is (t .to) (truncation-below (scannedImage field) n (t .truncated))
+
 -- Published: what a number that is an element of a line prints in its field, with document 01's marks.
 pub element-by-rule : {field : List ℕ} {f : Field} → IsField field f → (texts : List ℕ) (n : Number)
     → elementBytes texts field (element.Number n) ≡ orField field (numberByRule documentMarks field n)
 unfolding elementBytes
 element-by-rule {field} is texts n = ap (orField field) (number-by-rule documentMarks is n)
+
+-- Published: each byte that such a number prints is the rule's for its position.
+pub byte-by-rule : (m : Marks) {field : List ℕ} {f : Field} → IsField field f → (n : Number) {bytes : List ℕ}
+    → (h : numberMarked m field n ≡ done bytes)
+    → (p : ℕ)
+    → p < length field
+    → getD bytes p 0 ≡ ruleByte m (scannedImage field) (in-field m field n h .to) (take p field) (getD field p 0)
+byte-by-rule m {field} is n h p inside =
+    ap (λ (l : List ℕ). getD l p 0) (bytes-by-rule m is n h) ∙ rule-at m (scannedImage field) (in-field m field n h .to) field p inside

@@ -12,6 +12,7 @@ pub mod StrayLaws
 pub mod FillLaws
 pub mod FieldBackTheorem
 pub mod FieldRuleTheorem
+pub mod CommaTheorem
 pub mod CheckLaws
 pub mod FindLaws
 pub mod ForecastTheorem

@@ -2,9 +2,9 @@
 -- text, except that in fixed point leading zeros before the point (or the field's end, if it has none), but never the last digit there, become
 -- blanks, and a comma with no digit before it becomes a blank". Each byte is said by itself, from its position in the field and from the alpha
 -- text. The comma, the point and the blank that are printed are the marks'.
-use Prim.Native.Nat.{ℕ, zero, suc, _+_, _-_, _/_, _^_}
+use Prim.Native.Nat.{ℕ, zero, suc, _-_, _/_, _^_}
 use mathlib.Core.List.{List, [], _∷_}
-use mathlib.Core.Bool.{_&&_}
+use mathlib.Core.Bool.{Bool, false, _&&_, _||_}
 use lib.ListN.{length, take, getD}
 use lib.Dec.{ltb, eqb}
 use Rattle.decimal.specs.declared.image.Image.{Image}
@@ -14,6 +14,7 @@ use Rattle.decimal.specs.Digits.{leadingZeros}
 use Rattle.decimal.specs.Image.{hashByte, commaByte, scannedImage}
 use Rattle.decimal.specs.Truncation.{Truncated, truncation}
 use Rattle.codec.specs.Alpha.{alphaText}
+use Rattle.codec.specs.Text.{isDigit}
 use Rattle.records.specs.declared.marks.Marks.{Marks}
 use Rattle.records.specs.Marks.{withDecimal}
 use Rattle.records.specs.Fields.{hashCount}
@@ -43,6 +44,11 @@ ruleByte m im t before b =
     pick (eqb b commaByte)
     (pick (ltb (hiddenDigits im t) (hashCount before)) (m .thousands) (m .filling))
     (pick (eqb b hashByte && ltb (hashCount before) (hiddenDigits im t)) (m .filling) (alphaBehind m im t before))
+
+-- whether a digit stands among bytes
+unfoldable pub hasDigit : List ℕ → Bool
+hasDigit [] = false
+hasDigit (b ∷ bs) = isDigit b || hasDigit bs
 
 -- n bytes from a position on, each by its position
 unfoldable pub bytesFrom : (ℕ → ℕ) → ℕ → ℕ → List ℕ
