@@ -45,11 +45,6 @@ ruleByte m im t before b =
     (pick (ltb (hiddenDigits im t) (hashCount before)) (m .thousands) (m .filling))
     (pick (eqb b hashByte && ltb (hashCount before) (hiddenDigits im t)) (m .filling) (alphaBehind m im t before))
 
--- whether a digit stands among bytes
-unfoldable pub hasDigit : List ℕ → Bool
-hasDigit [] = false
-hasDigit (b ∷ bs) = isDigit b || hasDigit bs
-
 -- n bytes from a position on, each by its position
 unfoldable pub bytesFrom : (ℕ → ℕ) → ℕ → ℕ → List ℕ
 bytesFrom byte p zero = []
@@ -62,3 +57,10 @@ ruleBytes m field im t = bytesFrom (λ p. ruleByte m im t (take p field) (getD f
 -- a number in a field, refused where it is spilled
 unfoldable pub numberByRule : Marks → List ℕ → Number → Answer (List ℕ)
 numberByRule m field n = truncation 0 (scannedImage field) n then λ t. done (ruleBytes m field (scannedImage field) t)
+
+-- The sentence about commas, of the bytes that are printed, asks this of the bytes before one.
+
+-- whether a digit stands among bytes
+unfoldable pub hasDigit : List ℕ → Bool
+hasDigit [] = false
+hasDigit (b ∷ bs) = isDigit b || hasDigit bs
