@@ -1,8 +1,9 @@
 // Text numbers: the legal length of a text, and converting a whole text (document 01: Alpha text, second paragraph).
 ghost use mathlib.Core.Path.{_≡_};
-ghost use Prim.Native.Nat.{_≤_};
+ghost use Prim.Native.Nat.{_+_, _-_, _≤_};
 ghost use lib.ListN.{length, drop};
-ghost use Rattle.decimal.specs.Number.{numberMeaning};
+ghost use Rattle.decimal.specs.Answer.{pick};
+ghost use Rattle.decimal.specs.Number.{exponentLimit, numberMeaning};
 ghost use Rattle.codec.specs.Text.{
   isMinus,
   legalLength,
@@ -191,6 +192,17 @@ fn fraction_at(text: &[u8], at: usize, most: usize, start: u64) -> Fraction
     }
 }
 
+// An exponent of a sign and a size, plus EXPONENT_LIMIT.
+fn signed_power(sign: Sign, size: usize) -> usize
+    requires { ⌜ size ≤ exponentLimit ⌝ }
+    ensures { λ r. ⌜ r ≡ pick (isMinus sign) (exponentLimit - size) (exponentLimit + size) ⌝ }
+{
+    if is_minus(sign) {
+        return EXPONENT_LIMIT - size;
+    }
+    EXPONENT_LIMIT + size
+}
+
 // The exponent at a place: E, an optional sign, and one or two digits; nothing where no digit follows.
 fn power_at(text: &[u8], at: usize) -> Power
     requires { ⌜ at ≤ length (now text) ⌝ }
@@ -213,18 +225,9 @@ fn power_at(text: &[u8], at: usize) -> Power
     if run.count == 0 {
         return none;
     }
-    let size = run.value as usize;
+    let up = signed_power(sign, run.value as usize);
     let used = 1 + signs + run.count;
-    if is_minus(sign) {
-        return Power {
-            up: EXPONENT_LIMIT - size,
-            used,
-        };
-    }
-    Power {
-        up: EXPONENT_LIMIT + size,
-        used,
-    }
+    Power { up, used }
 }
 
 // The numeral at a place, whatever stands before it; there may be no digit.

@@ -227,12 +227,21 @@ pub fn truncate(image: Image, number: Number, place: usize) -> Truncation
     }
 }
 
+// The whole part of a mantissa in units of a power of ten: the digits before the unit's, the rest cut off and not rounded.
+fn whole_part(mantissa: u64, unit: u64) -> u64
+    requires { ⌜ (mantissa < 10 ^ precision) × (0 < unit) × (unit ≤ 10 ^ precision) ⌝ }
+    ensures { λ r. ⌜ r ≡ mantissa / unit ⌝ }
+{
+    mantissa / unit
+}
+
 // A mantissa with all but its first count digits zero.
 fn cut_mantissa(mantissa: u64, count: usize) -> u64
-    requires { ⌜ count ≤ precision ⌝ }
+    requires { ⌜ (mantissa < 10 ^ precision) × (count ≤ precision) ⌝ }
     ensures { λ r. ⌜ r ≡ mantissa / 10 ^ (precision - count) * 10 ^ (precision - count) ⌝ }
 {
-    mantissa - mantissa % power_of_ten(PRECISION - count)
+    let unit = power_of_ten(PRECISION - count);
+    whole_part(mantissa, unit) * unit
 }
 
 // A number's truncation under an image as a number; refused as fit is.

@@ -152,6 +152,7 @@ Inv-loop2 buffer₀ images numbers count checked size at₀ column₀ buffer at 
     × (length (numbers .values) ≡ maxColumns)
     × AllPack (take count (images .values)) (take count (numbers .values))
     × (bodySize (take count (images .values)) ≤ length buffer₀)
+    × (1 ≤ count)
 
 abbrev μ-loop2 : tie.MeasureT-loop2
 μ-loop2 buffer₀ images numbers count checked size at₀ column₀ buffer at column = count - column
@@ -308,6 +309,7 @@ loop2-holds c =
       i .3,
       packs,
       columns-room (a .t1) (a .t2) (i .2) good (e .if1 .left) (i .3) packs (z .body-size .ensures) (c .if2 .left),
+      omega (arith, checks-checked (imageList (a .t1)) good .low, image-count (a .t1)),
     )
 
 mul-image-2 : tie.Need-mul-image-2 Inv-loop μ-loop Inv-loop2 μ-loop2
@@ -368,6 +370,7 @@ loop2-again c =
       i .6,
       i .7,
       i .8,
+      i .9,
     )
 
 same-length : tie.Need-same-length Inv-loop μ-loop Inv-loop2 μ-loop2

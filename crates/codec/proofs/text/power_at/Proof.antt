@@ -1,7 +1,7 @@
 -- `power_at` meets its contract, by the laws of the exponent at a place: none, E without a digit, E with a sign and digits.
 -- Assumes nothing.
 use Prim.Native.Nat.{_+_, _≤_}
-use mathlib.Core.Path.{sym, ap, _∙_}
+use mathlib.Core.Path.{refl, ap, _∙_}
 use native.Mathlib.Omega.{arith}
 use borrow.Author.Needs.{needs}
 use lib.ListN.{length, drop, length-drop}
@@ -59,44 +59,27 @@ returns-3 c =
     let a = e .before .before .before .before .args in
     power-bare (a .text .now) (a .at) (omega arith) (e .if2 .left) (s .sign-at .ensures) (l .sign-length .ensures) (r .digit-run .ensures) (omega arith)
 
+signed-power-requires : tie.Need-signed-power-requires
+signed-power-requires c κs = omega (arith, run-exponent (c .before .before .digit-run .ensures))
+
 add-used : tie.Need-add-used
-add-used c = omega (arith, inside (c .before .before .before))
+add-used c = omega (arith, inside (c .before .before .before .before))
 
 add-used-2 : tie.Need-add-used-2
-add-used-2 c = omega (arith, inside (c .before .before .before .before), run-few (c .before .before .before .digit-run .ensures))
-
-is-minus-requires : tie.Need-is-minus-requires
-is-minus-requires c κs = search needs
-
-sub-t16 : tie.Need-sub-t16
-sub-t16 c = omega (arith, run-exponent (c .before .before .before .before .before .digit-run .ensures))
+add-used-2 c = omega (arith, inside (c .before .before .before .before .before), run-few (c .before .before .before .before .digit-run .ensures))
 
 returns-4 : tie.Need-returns-4
 returns-4 c =
-    let m = c .before in
-    let r = m .before .before .before .before in
+    let u = c .before in
+    let r = u .before .before .before in
     let l = r .before in
     let s = l .before in
     let e = s .before in
     let a = e .before .before .before .before .args in
-    power-some (a .text .now) (a .at) (omega arith) (e .if2 .left) (s .sign-at .ensures) (l .sign-length .ensures) (r .digit-run .ensures)
+    rw (u .signed-power .ensures)
+    (power-some (a .text .now) (a .at) (omega arith) (e .if2 .left) (s .sign-at .ensures) (l .sign-length .ensures) (r .digit-run .ensures)
     (omega arith)
-    (sym (c .if4 .taken) ∙ m .is-minus .ensures)
-
-add-t10 : tie.Need-add-t10
-add-t10 c = omega (arith, run-exponent (c .before .before .before .before .before .digit-run .ensures))
-
-returns-5 : tie.Need-returns-5
-returns-5 c =
-    let m = c .before in
-    let r = m .before .before .before .before in
-    let l = r .before in
-    let s = l .before in
-    let e = s .before in
-    let a = e .before .before .before .before .args in
-    power-some (a .text .now) (a .at) (omega arith) (e .if2 .left) (s .sign-at .ensures) (l .sign-length .ensures) (r .digit-run .ensures)
-    (omega arith)
-    (sym (c .if4 .left) ∙ m .is-minus .ensures)
+    refl)
 
 pub power-at-spec : {M : Type 1} → statement M
 power-at-spec =
@@ -112,10 +95,7 @@ power-at-spec =
     add-digit-run-2
     digit-run-requires
     returns-3
+    signed-power-requires
     add-used
     add-used-2
-    is-minus-requires
-    sub-t16
-    returns-4
-    add-t10
-    returns-5)
+    returns-4)

@@ -1,11 +1,10 @@
--- `cut_mantissa` meets its contract: the remainder taken away leaves the multiple of the power. Assumes nothing.
-use Prim.Native.Nat.{ℕ, _-_, _%_, _^_, _≤_}
+-- `cut_mantissa` meets its contract: the whole part times the unit. Assumes nothing.
+use Prim.Native.Nat.{ℕ, _-_, _*_, _/_, _%_, _^_, _≤_, _<_}
 use mathlib.Core.Path.{_≡_, ap, _∙_}
 use native.Mathlib.Omega.{arith}
-use native.Mathlib.Nat.{mod-le}
 use borrow.Author.Needs.{needs}
 use Rattle.decimal.specs.Digits.{precision, powerOfTen}
-use Rattle.decimal.proofs.PowerLaws.{pow10-pos, power-small}
+use Rattle.decimal.proofs.PowerLaws.{pow10-pos, pow10-mono, power-small}
 use Rattle.decimal.proofs.ScaleLaws.{cut-by-remainder}
 use Rattle.decimal.proofs.truncation.cut_mantissa.Statement.{statement}
 use Rattle.decimal.proofs.truncation.cut_mantissa.Tie as tie
@@ -20,20 +19,27 @@ sub-power-of-ten c = search needs
 power-of-ten-requires : tie.Need-power-of-ten-requires
 power-of-ten-requires c κs = search needs
 
-rem-result : tie.Need-rem-result
-rem-result c =
+whole-part-requires : tie.Need-whole-part-requires
+whole-part-requires c κs =
     let count = c .before .args .count in
-    omega (arith, pow10-pos (precision - count), powered count (c .power-of-ten .ensures))
+    let power = powered count (c .power-of-ten .ensures) in
+    (omega arith, omega (arith, power, pow10-pos (precision - count)), omega (arith, power, pow10-mono {i = precision - count} {j = precision} (omega arith)))
 
-sub-result : tie.Need-sub-result
-sub-result c = mod-le _ _
+-- the whole part times the unit
+times : (mantissa count : ℕ) {unit part : ℕ} → unit ≡ 10 ^ (precision - count) → part ≡ mantissa / unit → part * unit ≡ mantissa / 10 ^ (precision - count) * 10 ^ (precision - count)
+times mantissa count {unit} power whole = ap (λ (q : ℕ). q * unit) whole ∙ ap (λ (u : ℕ). mantissa / u * u) power
+
+mul-result : tie.Need-mul-result
+mul-result c =
+    let a = c .before .before .args in
+    let product = times (a .mantissa) (a .count) (powered (a .count) (c .before .power-of-ten .ensures)) (c .whole-part .ensures) in
+    omega (arith, product, cut-by-remainder (precision - 1) (a .mantissa) (precision - a .count))
 
 returns : tie.Need-returns
 returns c =
-    let a = c .before .args in
-    ap (λ (p : ℕ). a .mantissa - a .mantissa % p) (powered (a .count) (c .power-of-ten .ensures))
-    ∙ cut-by-remainder (precision - 1) (a .mantissa) (precision - a .count)
+    let a = c .before .before .args in
+    times (a .mantissa) (a .count) (powered (a .count) (c .before .power-of-ten .ensures)) (c .whole-part .ensures)
 
 pub cut-mantissa-spec : {M : Type 1} → statement M
 cut-mantissa-spec =
-    tie.close (tie.spec sub-power-of-ten power-of-ten-requires rem-result sub-result returns)
+    tie.close (tie.spec sub-power-of-ten power-of-ten-requires whole-part-requires mul-result returns)

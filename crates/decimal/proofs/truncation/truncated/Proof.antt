@@ -10,7 +10,7 @@ use Rattle.decimal.specs.declared.image.Image.{Image}
 use Rattle.decimal.specs.Answer.{Answer, done, refused, _then_, checkMeaning}
 use Rattle.decimal.specs.Digits.{precision}
 use Rattle.decimal.specs.Truncation.{isSigned, truncatedTo, truncation, numberOf, truncatedNumber, Fit, keptCount, keptNumber}
-use Rattle.decimal.proofs.NumberLaws.{number-path}
+use Rattle.decimal.proofs.NumberLaws.{number-path, normal-high}
 use Rattle.decimal.proofs.TruncationLaws.{fit-truncation}
 use Rattle.decimal.proofs.KeptLaws.{checked-refused, checked-fits, kept-size, number-none, number-some}
 use Rattle.decimal.proofs.truncation.truncated.Statement.{statement}
@@ -76,7 +76,7 @@ cut-mantissa-requires c κs =
     let t = k .before in
     let a = t .before .before .before .args in
     let fit = checked-fits (a .place) (a .image) (a .number) (sym (t .before .before .fit .ensures) ∙ ap checkMeaning (t .enum-told .given .1)) in
-    omega (arith, kept-size (a .image) (a .number) fit, fit .size, k .kept-count .ensures)
+    (normal-high (a .number) (fit .number-checked), omega (arith, kept-size (a .image) (a .number) fit, fit .size, k .kept-count .ensures))
 
 returns-3 : tie.Need-returns-3
 returns-3 c =
