@@ -185,6 +185,14 @@ fn mark_point(image: Image, marks: Marks, buffer: &mut [u8], at: usize)
     buffer[at + place] = marks.decimal;
 }
 
+// Writes a spilled field: its own bytes, from a place of the buffer on.
+fn write_spilled(field: &[u8], buffer: &mut [u8], at: usize)
+    requires { ⌜ at + length (now field) ≤ length (now buffer) ⌝ }
+    ensures { λ r. ⌜ now (buffer .exit) ≡ written (now (buffer .entry)) at (now (field .entry)) ⌝ }
+{
+    write_bytes(field, buffer, at);
+}
+
 // Writes a number into an exponential field, as alpha text; the field's own bytes where it is spilled.
 fn write_exponential(
     field: &[u8],
@@ -198,7 +206,7 @@ fn write_exponential(
     ensures { λ r. ⌜ now (buffer .exit) ≡ written (now (buffer .entry)) at (orField (now (field .entry)) (numberMarked marks (now (field .entry)) number)) ⌝ }
 {
     if let WriteAnswer::Refused(_) = write_alpha_under(image, number, &mut buffer[at..]) {
-        write_bytes(field, buffer, at);
+        write_spilled(field, buffer, at);
         return;
     }
     mark_point(image, marks, buffer, at);
@@ -223,7 +231,7 @@ fn write_number(
     let truncation = truncate(image, number, 0);
     let answer = truncation.answer;
     if let CheckAnswer::Refused(_) = answer {
-        write_bytes(field, buffer, at);
+        write_spilled(field, buffer, at);
         return;
     }
     write_fixed(field, image, truncation, marks, buffer, at);

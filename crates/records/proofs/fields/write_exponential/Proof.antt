@@ -35,8 +35,8 @@ write-alpha-under-requires c κs = search needs
 enum-told : tie.Need-enum-told
 enum-told c = search needs
 
-write-bytes-requires : tie.Need-write-bytes-requires
-write-bytes-requires c κs = search needs
+write-spilled-requires : tie.Need-write-spilled-requires
+write-spilled-requires c κs = search needs
 
 same-length : tie.Need-same-length
 same-length c = search needs
@@ -56,7 +56,7 @@ returns c =
     let spilled = alpha-refused (s .pre .0) (s .pre .1) (s .pre .2) (a .number) (omega (arith, s .pre .3)) (sym (ap writeMeaning (told .1)) ∙ w .write-alpha-under .ensures .0) in
     let none = ap (λ (im : Image). truncation 0 im (a .number)) (sym (s .pre .1)) ∙ spilled .truncated in
     let stays : w .write-alpha-under .last .1 .1 .0 ≡ part = w .write-alpha-under .ensures .1 ∙ ap (λ (x : Answer (List ℕ)). storedIn x part) (spilled .answer) in
-    c .before .before .write-bytes .ensures
+    c .before .before .write-spilled .ensures
     ∙ ap (λ (l : List ℕ). written l (a .at) field) (part-back b (a .at) k (w .write-alpha-under .last .1 .1 .0) (omega (arith, s .pre .3)) refl stays)
     ∙ ap (written b (a .at)) (sym (number-refused (a .marks) field (a .number) none))
 
@@ -104,7 +104,7 @@ write-exponential-spec =
     part-write-alpha-under-end
     write-alpha-under-requires
     enum-told
-    write-bytes-requires
+    write-spilled-requires
     same-length
     returns
     enum-told-2

@@ -30,8 +30,8 @@ truncate-requires c κs = search needs
 enum-told : tie.Need-enum-told
 enum-told c = search needs
 
-write-bytes-requires : tie.Need-write-bytes-requires
-write-bytes-requires c κs = search needs
+write-spilled-requires : tie.Need-write-spilled-requires
+write-spilled-requires c κs = search needs
 
 same-length-2 : tie.Need-same-length-2
 same-length-2 c = search needs
@@ -45,7 +45,7 @@ returns-2 c =
     let told = c .before .before .before .before .enum-told .given in
     let no = truncation-refused (a .image) (a .number) (t .truncate .result) (told .0 .0) (t .truncate .ensures) (told .1) in
     let none = ap (λ (im : Image). truncation 0 im (a .number)) (sym (s .pre .1)) ∙ no in
-    c .before .before .write-bytes .ensures ∙ ap (written (a .buffer .now) (a .at)) (sym (number-refused (a .marks) field (a .number) none))
+    c .before .before .write-spilled .ensures ∙ ap (written (a .buffer .now) (a .at)) (sym (number-refused (a .marks) field (a .number) none))
 
 enum-told-2 : tie.Need-enum-told-2
 enum-told-2 c = search needs
@@ -85,7 +85,7 @@ write-number-spec =
     returns
     truncate-requires
     enum-told
-    write-bytes-requires
+    write-spilled-requires
     same-length-2
     returns-2
     enum-told-2
