@@ -1,4 +1,4 @@
--- `lines::print_fields` is safe and ends: a field ends inside the line, and each turn leaves less of it. Assumes nothing.
+-- `lines::print_fields` is safe and ends: a field ends inside the line, and each turn leaves less of it. Assumes the contract of `libc::write`, through `io`.
 use Prim.Native.Nat.{_≤_, _-_}
 use native.Mathlib.Omega.{arith}
 use borrow.Author.Needs.{needs}

@@ -1,4 +1,4 @@
--- `lines::print_list` is safe and ends: the count stays within the array, and no element starts past the list's end. Assumes nothing.
+-- `lines::print_list` is safe and ends: the count stays within the array, and no element starts past the list's end. Assumes the contract of `libc::write`, through `io`.
 use Prim.Native.Nat.{_≤_, _-_}
 use mathlib.Core.Path.{_≡_}
 use borrow.Author.Needs.{needs}

@@ -1,4 +1,4 @@
--- `shown::print_bytes` is safe and ends: the index stays within the buffer. Assumes nothing.
+-- `shown::print_bytes` is safe and ends: the index stays within the buffer. Assumes the contract of `libc::write`, through `io`.
 use Prim.Native.Nat.{ℕ, _≤_, _-_}
 use borrow.Author.Needs.{needs}
 use Rattle.vectors.proofs.shown.print_bytes.Statement.{statement}

@@ -1,4 +1,4 @@
--- `shown::print_hexadecimal` is safe and ends: the index stays within the bytes. Assumes nothing.
+-- `shown::print_hexadecimal` is safe and ends: the index stays within the bytes. Assumes the contract of `libc::write`, through `io`.
 use Prim.Native.Nat.{_≤_, _-_}
 use borrow.Author.Needs.{needs}
 use lib.ListN.{length}
