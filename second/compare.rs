@@ -8,7 +8,7 @@ use std::collections::BTreeMap;
 use std::io::Write;
 use std::process::{Command, ExitCode, Stdio};
 
-/// Runs a program on the input, and gives what it prints.
+/// Runs a program on the input, and gives what it prints: a status that is not 0, or no output at all, ends the comparison.
 fn output(program: &str, input: &[u8]) -> Vec<u8> {
     let mut child = Command::new(program)
         .stdin(Stdio::piped())
@@ -17,7 +17,10 @@ fn output(program: &str, input: &[u8]) -> Vec<u8> {
         .unwrap_or_else(|error| panic!("{program}: {error}"));
     // A program need not read an input to its end, so that a write may fail.
     let _ = child.stdin.take().expect("its input").write_all(input);
-    child.wait_with_output().expect("its output").stdout
+    let run = child.wait_with_output().expect("its output");
+    assert!(run.status.success(), "{program}: {}", run.status);
+    assert!(!run.stdout.is_empty(), "{program}: no output");
+    run.stdout
 }
 
 /// Reads a word of a case: bytes in hexadecimal, or one byte, a star and how often it stands.

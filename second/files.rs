@@ -1,4 +1,6 @@
-//! Record files from a seeded generator: valid and damaged ones, short and long.
+//! Record files and their parts from a seeded generator: valid and damaged ones, short and long.
+//! Each program that includes this file uses only some of the functions.
+#![allow(dead_code)]
 use crate::model;
 use model::{Image, Number};
 
@@ -12,7 +14,7 @@ impl Random {
     }
 
     /// Gives the next 64 bits.
-    fn next(&mut self) -> u64 {
+    pub fn next(&mut self) -> u64 {
         self.0 ^= self.0 << 13;
         self.0 ^= self.0 >> 7;
         self.0 ^= self.0 << 17;
@@ -25,13 +27,13 @@ impl Random {
     }
 
     /// Gives a number from the first to the last, both included.
-    fn from_to(&mut self, first: i128, last: i128) -> i128 {
+    pub fn from_to(&mut self, first: i128, last: i128) -> i128 {
         first + self.below((last - first + 1) as usize) as i128
     }
 }
 
 /// Gives an image that a contents can have.
-fn image(random: &mut Random) -> Vec<u8> {
+pub fn image(random: &mut Random) -> Vec<u8> {
     let most = if random.below(3) == 0 { 13 } else { 5 };
     let n = 1 + random.below(most);
     let fraction = if random.below(2) == 0 { 0 } else { random.below(n + 1) };
@@ -48,7 +50,7 @@ fn image(random: &mut Random) -> Vec<u8> {
 }
 
 /// Gives bytes that no contents can have as an image, for most of them.
-fn bad_image(random: &mut Random) -> Vec<u8> {
+pub fn bad_image(random: &mut Random) -> Vec<u8> {
     match random.below(8) {
         0 => Vec::new(),
         1 => b"#.".to_vec(),
@@ -62,7 +64,7 @@ fn bad_image(random: &mut Random) -> Vec<u8> {
 }
 
 /// Gives a contents with these images.
-fn contents_of(images: &[Vec<u8>]) -> Vec<u8> {
+pub fn contents_of(images: &[Vec<u8>]) -> Vec<u8> {
     let mut bytes = vec![images.len() as u8];
     for image in images {
         bytes.push(image.len() as u8);
@@ -72,7 +74,7 @@ fn contents_of(images: &[Vec<u8>]) -> Vec<u8> {
 }
 
 /// Gives a number that packs under the image, or zero.
-fn number(random: &mut Random, image: &Image) -> Number {
+pub fn number(random: &mut Random, image: &Image) -> Number {
     let whole = image.whole as i128;
     let (first, last) = match (image.exponential, image.sign) {
         (false, _) => (-(image.fraction as i128) - 2, whole - 1),
@@ -91,7 +93,7 @@ fn number(random: &mut Random, image: &Image) -> Number {
 }
 
 /// Gives a file with a contents and so many records.
-fn file(random: &mut Random, images: &[Vec<u8>], records: usize) -> Vec<u8> {
+pub fn file(random: &mut Random, images: &[Vec<u8>], records: usize) -> Vec<u8> {
     let contents = contents_of(images);
     let mut bytes = contents.clone();
     if let Ok(read) = model::read_contents_alone(&contents) {
@@ -104,7 +106,7 @@ fn file(random: &mut Random, images: &[Vec<u8>], records: usize) -> Vec<u8> {
 }
 
 /// Gives some images, at most 16.
-fn images(random: &mut Random) -> Vec<Vec<u8>> {
+pub fn images(random: &mut Random) -> Vec<Vec<u8>> {
     let count = if random.below(6) == 0 { 16 } else { 1 + random.below(5) };
     (0..count).map(|_| image(random)).collect()
 }
@@ -124,7 +126,7 @@ fn record_count(random: &mut Random, images: &[Vec<u8>]) -> usize {
 }
 
 /// Changes one byte from a place on, if there is one.
-fn change(random: &mut Random, bytes: &mut [u8], from: usize) {
+pub fn change(random: &mut Random, bytes: &mut [u8], from: usize) {
     if from < bytes.len() {
         let place = from + random.below(bytes.len() - from);
         bytes[place] = if random.below(2) == 0 { bytes[place] ^ (1 << random.below(8)) } else { random.below(256) as u8 };

@@ -114,6 +114,19 @@ fn digits_of(whole: u128, count: usize) -> Vec<u8> {
     (0..count as u32).rev().map(|power| (whole / 10u128.pow(power) % 10) as u8).collect()
 }
 
+/// Gives how a normal number stands to another by value, or refuses with 3 and 0 for the first, 1 for the second.
+pub fn compare(first: &Number, second: &Number) -> Result<std::cmp::Ordering, Refusal> {
+    require_normal(first, 0)?;
+    require_normal(second, 1)?;
+    // Zero, then of two nonzero normal numbers the one with the larger exponent, then the one with the larger mantissa is farther out.
+    let value = |number: &Number| {
+        let sign = if number.negative { -1 } else { 1 };
+        let size = if number.m == 0 { 0 } else { (number.e + 100) * 10i128.pow(14) + number.m as i128 };
+        sign * size
+    };
+    Ok(value(first).cmp(&value(second)))
+}
+
 // ---- Images ----
 
 impl Image {
@@ -461,6 +474,51 @@ pub fn convert(text: &[u8]) -> Result<Number, Refusal> {
 pub fn read_field(field: &[u8]) -> Result<Number, Refusal> {
     let left: Vec<u8> = field.iter().copied().filter(|byte| !b" ,".contains(byte)).collect();
     convert(&left)
+}
+
+// ---- Walking a text ----
+
+/// Why reading the numbers of a text stops.
+#[derive(Clone, Copy, Debug, PartialEq, Eq)]
+pub enum Stop {
+    End,
+    NoNumber,
+    TooMany,
+    Refused(Refusal),
+}
+
+/// The numbers read, and where and why reading stopped.
+#[derive(Clone, Debug, PartialEq, Eq)]
+pub struct Walked {
+    pub stop: Stop,
+    pub place: usize,
+    pub numbers: Vec<Number>,
+}
+
+/// Gives the next place, from one on, where a text number begins: the text's end if there is none, a place past it as it is.
+pub fn next_number_place(text: &[u8], from: usize) -> usize {
+    (from..text.len()).find(|&place| legal_length(&text[place..]) > 0).unwrap_or(from.max(text.len()))
+}
+
+/// Reads the text numbers that stand one behind the other from a place on, at most 16.
+pub fn read_text_numbers(text: &[u8], from: usize) -> Walked {
+    let (mut place, mut numbers) = (from, Vec::new());
+    let stop = loop {
+        let ahead = text.get(place..).unwrap_or(&[]);
+        let used = legal_length(ahead);
+        match (ahead.is_empty(), used, numbers.len()) {
+            (true, _, _) => break Stop::End,
+            (_, 0, _) => break Stop::NoNumber,
+            (_, _, MOST_COLUMNS) => break Stop::TooMany,
+            _ => {}
+        }
+        match convert(&ahead[..used]) {
+            Ok(number) => numbers.push(number),
+            Err(refusal) => break Stop::Refused(Refusal { number: refusal.number, place: numbers.len() }),
+        }
+        place += used;
+    };
+    Walked { stop, place, numbers }
 }
 
 // ---- Print lines ----

@@ -1,0 +1,67 @@
+-- `shown::print_bytes` is safe and ends: the index stays within the bytes. Assumes the contract of `libc::write`, through `io`.
+use borrow.Author.Needs.{needs}
+use Prim.Native.Nat.{_≤_, _-_}
+use lib.ListN.{length}
+use Rattle.calls.proofs.shown.print_bytes.Statement.{statement}
+use Rattle.calls.proofs.shown.print_bytes.Tie as tie
+use Rattle.calls.proofs.shown.print_bytes.Reads as reads
+use Rattle.calls.proofs.shown.print_bytes.Lts as lts
+use Rattle.calls.proofs.shown.print_byte.Reads as print-byte-reads
+use Rattle.calls.proofs.shown.print_raw.Reads as print-raw-reads
+
+abbrev Inv-loop : tie.InvT-loop
+Inv-loop bytes i₀ i = i ≤ length bytes
+
+abbrev μ-loop : tie.MeasureT-loop
+μ-loop bytes i₀ i = length bytes - i
+
+slice-aggregate-print-raw : tie.Need-slice-aggregate-print-raw Inv-loop μ-loop
+slice-aggregate-print-raw c = search needs
+
+print-raw-requires : tie.Need-print-raw-requires Inv-loop μ-loop
+print-raw-requires c κs = search needs
+
+slice-aggregate-print-raw-2 : tie.Need-slice-aggregate-print-raw-2 Inv-loop μ-loop
+slice-aggregate-print-raw-2 c = search needs
+
+print-raw-requires-2 : tie.Need-print-raw-requires-2 Inv-loop μ-loop
+print-raw-requires-2 c κs = search needs
+
+loop-holds : tie.Need-loop-holds Inv-loop μ-loop
+loop-holds c = search needs
+
+shared-slice-read-print-byte : tie.Need-shared-slice-read-print-byte Inv-loop μ-loop
+shared-slice-read-print-byte c = search needs
+
+print-byte-requires : tie.Need-print-byte-requires Inv-loop μ-loop
+print-byte-requires c κs = search needs
+
+add-i : tie.Need-add-i Inv-loop μ-loop
+add-i c = search needs
+
+loop-less : tie.Need-loop-less Inv-loop μ-loop
+loop-less c = search needs
+
+loop-again : tie.Need-loop-again Inv-loop μ-loop
+loop-again c = search needs
+
+returns : tie.Need-returns Inv-loop μ-loop
+returns c = search needs
+
+pub print-bytes-spec : {M : Type 1} → statement M
+print-bytes-spec =
+    tie.close
+    (tie.spec
+    Inv-loop
+    μ-loop
+    slice-aggregate-print-raw
+    print-raw-requires
+    slice-aggregate-print-raw-2
+    print-raw-requires-2
+    loop-holds
+    shared-slice-read-print-byte
+    print-byte-requires
+    add-i
+    loop-less
+    loop-again
+    returns)

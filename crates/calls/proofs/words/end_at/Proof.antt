@@ -1,0 +1,49 @@
+-- `words::end_at` meets its contract: the place stays between the start and the end. Assumes nothing.
+use borrow.Author.Needs.{needs}
+use Prim.Native.Nat.{_≤_, _-_}
+use lib.ListN.{length}
+use Rattle.calls.proofs.words.end_at.Statement.{statement}
+use Rattle.calls.proofs.words.end_at.Tie as tie
+use Rattle.calls.proofs.words.end_at.Reads as reads
+use Rattle.calls.proofs.words.end_at.Lts as lts
+
+abbrev Inv-loop : tie.InvT-loop
+Inv-loop bytes start mark end₀ end = (start ≤ end) × (end ≤ length bytes)
+
+abbrev μ-loop : tie.MeasureT-loop
+μ-loop bytes start mark end₀ end = length bytes - end
+
+loop-holds : tie.Need-loop-holds Inv-loop μ-loop
+loop-holds c = search needs
+
+shared-slice-read-if1 : tie.Need-shared-slice-read-if1 Inv-loop μ-loop
+shared-slice-read-if1 c = search needs
+
+returns : tie.Need-returns Inv-loop μ-loop
+returns c = search needs
+
+add-end : tie.Need-add-end Inv-loop μ-loop
+add-end c = search needs
+
+loop-less : tie.Need-loop-less Inv-loop μ-loop
+loop-less c = search needs
+
+loop-again : tie.Need-loop-again Inv-loop μ-loop
+loop-again c = search needs
+
+returns-2 : tie.Need-returns-2 Inv-loop μ-loop
+returns-2 c = search needs
+
+pub end-at-spec : {M : Type 1} → statement M
+end-at-spec =
+    tie.close
+    (tie.spec
+    Inv-loop
+    μ-loop
+    loop-holds
+    shared-slice-read-if1
+    returns
+    add-end
+    loop-less
+    loop-again
+    returns-2)

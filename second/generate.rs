@@ -1,0 +1,337 @@
+mod answers;
+mod files;
+mod model;
+
+// Writes generated calls for the programs `calls`, one to a line: valid and damaged ones, so that every refusal comes up.
+// Arguments: the seed, the count.
+use answers::hexadecimal;
+use files::Random;
+use model::{Element, Number};
+use std::io::Write;
+
+/// Gives one of some values.
+fn one_of<T: Clone>(random: &mut Random, values: &[T]) -> T {
+    values[random.below(values.len())].clone()
+}
+
+/// Gives some bytes of a set.
+fn bytes_of(random: &mut Random, set: &[u8], most: usize) -> Vec<u8> {
+    (0..random.below(most + 1)).map(|_| one_of(random, set)).collect()
+}
+
+/// Gives an image, at times one that no contents can have.
+fn image(random: &mut Random) -> Vec<u8> {
+    if random.below(8) == 0 { files::bad_image(random) } else { files::image(random) }
+}
+
+/// Gives a contents, at times a damaged one.
+fn contents(random: &mut Random) -> Vec<u8> {
+    let mut images = files::images(random);
+    let damage = random.below(16);
+    if damage == 0 {
+        let place = random.below(images.len());
+        images[place] = files::bad_image(random);
+    }
+    let mut bytes = files::contents_of(&images);
+    match damage {
+        1 => bytes[0] = one_of(random, &[0, 17, 255, 2]),
+        2 => bytes.truncate(random.below(bytes.len() + 1)),
+        3 => bytes.push(random.below(256) as u8),
+        4 => files::change(random, &mut bytes, 0),
+        _ => {}
+    }
+    bytes
+}
+
+/// Gives a number of any size, at times not in normal form.
+fn any_number(random: &mut Random) -> Number {
+    let m = one_of(random, &[1_000_000_000_000, 9_999_999_999_999, 1_219_500_000_000, 5_000_000_000_000, 2_439_000_000_000]);
+    let m = if random.below(3) == 0 { m } else { 1_000_000_000_000 + u128::from(random.next()) % 9_000_000_000_000 };
+    let e = if random.below(3) == 0 { random.from_to(-99, 99) } else { random.from_to(-4, 13) };
+    let number = Number { negative: random.below(2) == 0, m, e };
+    match random.below(24) {
+        0 => Number { m: 0, ..number },
+        1 => Number { m: m / 10, ..number },
+        2 => Number { m: m * 10, ..number },
+        3 => Number { e: one_of(random, &[100, 101, 1000, i128::from(u64::MAX) - 99]), ..number },
+        4 => Number { negative: true, ..Number::ZERO },
+        5..=7 => Number::ZERO,
+        _ => number,
+    }
+}
+
+/// Gives a number for an image: mostly one that packs under it.
+fn number_for(random: &mut Random, image: &model::Image) -> Number {
+    if random.below(16) == 0 { any_number(random) } else { files::number(random, image) }
+}
+
+/// Gives a list for a contents, at times one that does not pack under it.
+fn list_for(random: &mut Random, contents: &[u8]) -> Vec<Number> {
+    let images = model::read_contents(contents).map(|(images, _)| images).unwrap_or_default();
+    let mut numbers: Vec<Number> = images.iter().map(|image| number_for(random, image)).collect();
+    match random.below(20) {
+        0 => numbers.push(Number::ZERO),
+        1 => drop(numbers.pop()),
+        2 => numbers = (0..random.below(19)).map(|_| any_number(random)).collect(),
+        _ => {}
+    }
+    numbers
+}
+
+/// Writes an element as bytes.
+fn item(element: &Element) -> Vec<u8> {
+    let (kind, first, second) = match *element {
+        Element::Number(number) => (u8::from(number.negative), number.m as u64, (number.e + 99) as u64),
+        Element::Text { start, length } => (2, start as u64, length as u64),
+    };
+    [&[kind][..], &first.to_be_bytes(), &second.to_be_bytes()].concat()
+}
+
+/// Writes numbers as bytes.
+fn items(numbers: &[Number]) -> Vec<u8> {
+    numbers.iter().flat_map(|&number| item(&Element::Number(number))).collect()
+}
+
+/// Writes a size as bytes.
+fn size(value: usize) -> Vec<u8> {
+    if value < 65_536 { (value as u16).to_be_bytes().to_vec() } else { (value as u64).to_be_bytes().to_vec() }
+}
+
+/// Gives a buffer for an answer of some length: too short, just long enough, or longer, with any bytes in it.
+fn buffer_for(random: &mut Random, length: usize) -> Vec<u8> {
+    let room = match random.below(8) {
+        0 => random.below(length + 1),
+        1 => length.saturating_sub(1),
+        2..=4 => length,
+        _ => length + random.below(6),
+    };
+    (0..room.min(3_000)).map(|_| random.below(256) as u8).collect()
+}
+
+/// Gives a text: mostly one that begins as a text number.
+fn text(random: &mut Random) -> Vec<u8> {
+    if random.below(4) == 0 {
+        return bytes_of(random, b" +-.0123456789E,e\t", 20);
+    }
+    let mut text = bytes_of(random, b" ", 2);
+    text.extend(one_of(random, &[&b""[..], b"", b"+", b"-"]));
+    let digits = if random.below(8) == 0 { 12 + random.below(4) } else { 1 + random.below(7) };
+    let set: &[u8] = if random.below(8) == 0 { b"0" } else { b"0123456789" };
+    let mut row: Vec<u8> = (0..digits).map(|_| one_of(random, set)).collect();
+    if random.below(2) == 0 {
+        row.insert(random.below(digits + 1), b'.');
+    }
+    text.extend(row);
+    if random.below(3) == 0 {
+        text.extend(one_of(random, &[&b"E"[..], b"E+", b"E-", b"E9", b"E99", b"E-99", b"E-100"]));
+        text.extend(bytes_of(random, b"0123456789", 2));
+    }
+    text.extend(bytes_of(random, b" ", 2));
+    if random.below(4) == 0 {
+        text.extend(bytes_of(random, b" torn.+-E5", 4));
+    }
+    text
+}
+
+/// Gives a text with many numbers.
+fn long_text(random: &mut Random) -> Vec<u8> {
+    let count = one_of(random, &[1, 3, 5, 15, 16, 17, 18]);
+    let clean = random.below(2) == 0;
+    let part = |_| if clean { format!("{} ", random.below(100_000)).into_bytes() } else { text(random) };
+    (0..count).flat_map(part).collect()
+}
+
+/// Gives a line image, at times one that is too long.
+fn line(random: &mut Random) -> Vec<u8> {
+    if random.below(60) == 0 {
+        return vec![one_of(random, b"# "); 4_095 + random.below(4)];
+    }
+    let mut line = Vec::new();
+    for _ in 0..random.below(5) {
+        line.extend(bytes_of(random, b" ab=,.", 3));
+        match random.below(8) {
+            0 => line.extend(files::bad_image(random)),
+            1 => line.extend(bytes_of(random, b"#####,.^+-", 9)),
+            2 => line.extend(one_of(random, &[&b"#,###,###.##"[..], b"-##,##", b"+#,###^^^^", b"#,,#", b"##^^^^^", b"#.#,#"])),
+            _ => line.extend(files::image(random)),
+        }
+    }
+    line.extend(bytes_of(random, b" ab", 2));
+    line
+}
+
+/// Gives an element: a number, or a text, which at times runs past the lent bytes.
+fn element(random: &mut Random, texts: usize) -> Element {
+    if random.below(4) > 0 {
+        return Element::Number(any_number(random));
+    }
+    let start = random.below(texts + 1);
+    let length = random.below(texts - start + 1);
+    match random.below(10) {
+        0 => Element::Text { start: start as u128, length: u128::from(u64::MAX) },
+        1 => Element::Text { start: texts as u128 + 1, length: 0 },
+        _ => Element::Text { start: start as u128, length: length as u128 },
+    }
+}
+
+/// Gives elements that mostly can be printed.
+fn elements(random: &mut Random, texts: usize) -> Vec<Element> {
+    let count = if random.below(12) == 0 { 63 + random.below(4) } else { random.below(7) };
+    let mut elements: Vec<Element> = (0..count).map(|_| element(random, texts)).collect();
+    if random.below(3) > 0 {
+        elements.retain(|element| !matches!(element, Element::Number(number) if !number.is_normal()));
+    }
+    elements
+}
+
+/// Gives a file of at most some hundred bytes, at times a damaged one.
+fn file(random: &mut Random) -> Vec<u8> {
+    let images = files::images(random);
+    let records = random.below(6);
+    let mut bytes = files::file(random, &images, records);
+    let front = files::contents_of(&images).len();
+    match random.below(16) {
+        0 => bytes = contents(random),
+        1 => bytes.truncate(random.below(bytes.len() + 1)),
+        2 | 3 => files::change(random, &mut bytes, front),
+        4 => files::change(random, &mut bytes, 0),
+        5 => bytes.push(0),
+        _ => {}
+    }
+    bytes
+}
+
+/// Gives the words of a call that adds a record.
+fn add(random: &mut Random) -> Vec<Vec<u8>> {
+    let file = file(random);
+    let numbers = list_for(random, &file);
+    let body = model::read_file(&file).map_or(3, |(images, _)| model::body_length(&images));
+    let used = match random.below(16) {
+        0 => file.len() + random.below(40),
+        1 => random.below(file.len() + 1),
+        2 => usize::MAX,
+        _ => file.len(),
+    };
+    let behind = buffer_for(random, body);
+    vec![[file, behind].concat(), size(used), items(&numbers)]
+}
+
+/// Gives the words of a print call.
+fn print(random: &mut Random) -> Vec<Vec<u8>> {
+    let (line, texts) = (line(random), bytes_of(random, b"torn leaf", 12));
+    let elements = elements(random, texts.len());
+    let length = model::print(&line, &elements, &texts, usize::MAX).map_or(4, |printed| printed.bytes.len());
+    let list = elements.iter().flat_map(item).collect();
+    vec![buffer_for(random, length), line, list, texts]
+}
+
+/// Gives the words of a call by its name.
+fn words(random: &mut Random, name: &str) -> Vec<Vec<u8>> {
+    match name {
+        "compare" => {
+            let first = any_number(random);
+            let second = if random.below(3) == 0 { Number { negative: random.below(2) == 0, ..first } } else { any_number(random) };
+            vec![items(&[first]), items(&[second])]
+        }
+        "image" => vec![image(random), size(random.below(20))],
+        "truncate" => {
+            let image = image(random);
+            let number = match model::read_image(&image, 0) {
+                Ok(image) if random.below(3) > 0 => number_for(random, &image),
+                _ => any_number(random),
+            };
+            vec![image, items(&[number]), size(random.below(16))]
+        }
+        "pack" => {
+            let contents = contents(random);
+            let numbers = list_for(random, &contents);
+            let length = model::read_contents_alone(&contents).map_or(2, |images| model::body_length(&images));
+            vec![buffer_for(random, length), contents, items(&numbers)]
+        }
+        "unpack" => {
+            let contents = contents(random);
+            let numbers = list_for(random, &contents);
+            let mut body = model::pack(&contents, &numbers, usize::MAX).unwrap_or_default();
+            match random.below(8) {
+                0..=2 => files::change(random, &mut body, 0),
+                3 => body.push(0),
+                _ => {}
+            }
+            vec![contents, body]
+        }
+        "alpha" => {
+            let image = image(random);
+            let number = match model::read_image(&image, 0) {
+                Ok(image) if random.below(3) > 0 => number_for(random, &image),
+                _ => any_number(random),
+            };
+            vec![buffer_for(random, image.len()), image, items(&[number])]
+        }
+        "legal" | "convert" => vec![text(random)],
+        "field" => {
+            let mut field = text(random);
+            if random.below(2) == 0 {
+                field.insert(random.below(field.len() + 1), one_of(random, b", "));
+            }
+            vec![field]
+        }
+        "place" | "numbers" => {
+            let text = long_text(random);
+            let from = if random.below(2) == 0 { 0 } else { random.below(text.len() + 3) };
+            vec![text, size(if random.below(20) == 0 { usize::MAX } else { from })]
+        }
+        "scan" => {
+            let line = line(random);
+            let at = random.below(line.len() + 2);
+            vec![line, size(if random.below(20) == 0 { usize::MAX } else { at })]
+        }
+        "print" => print(random),
+        "forecast" => {
+            let length = one_of(random, &[0, 1, 80, 4_095, 4_096, 4_097, usize::MAX]);
+            vec![size(length), size(one_of(random, &[0, 1, 9, 63, 64, 65, usize::MAX]))]
+        }
+        "contents" => {
+            let contents = contents(random);
+            vec![buffer_for(random, contents.len()), contents]
+        }
+        "add" => add(random),
+        "show" => vec![file(random), size(if random.below(20) == 0 { usize::MAX } else { random.below(7) })],
+        _ => {
+            let file = file(random);
+            let length = if name == "list" { model::listing(&file).map_or(4, |output| output.len()) } else { model::listing_output(&file).len() };
+            vec![buffer_for(random, length), file]
+        }
+    }
+}
+
+/// The names of the calls.
+const NAMES: [&str; 19] = [
+    "compare", "image", "truncate", "pack", "unpack", "alpha", "legal", "convert", "place", "numbers", "scan", "print", "forecast", "field",
+    "contents", "add", "show", "list", "report",
+];
+
+/// Damages a line so that it is no call, for most lines.
+fn damage(random: &mut Random, line: &str) -> String {
+    match random.below(5) {
+        0 => line[..random.below(line.len() + 1)].to_string(),
+        1 => line.to_uppercase(),
+        2 => format!("x{line}"),
+        3 => format!("{line}0"),
+        _ => line.replacen('0', "g", 1),
+    }
+}
+
+fn main() -> std::io::Result<()> {
+    let arguments: Vec<u64> = std::env::args().skip(1).filter_map(|word| word.parse().ok()).collect();
+    let [seed, count] = arguments[..] else { panic!("usage: generate SEED COUNT") };
+    let mut random = Random::new(seed);
+    let mut output = std::io::BufWriter::new(std::io::stdout().lock());
+    for _ in 0..count {
+        let name = one_of(&mut random, &NAMES);
+        let words = words(&mut random, name);
+        let line = words.iter().fold(name.to_string(), |line, word| line + " " + &hexadecimal(word));
+        let line = if random.below(40) == 0 { damage(&mut random, &line) } else { line };
+        writeln!(output, "{line}")?;
+    }
+    output.flush()
+}
