@@ -5,13 +5,13 @@ use crate::model;
 use model::{Element, Image, Number, Refusal, Stop};
 
 /// The most bytes of a line.
-pub const LONGEST_CALL: usize = 16_384;
+const LONGEST_CALL: usize = 16_384;
 
 /// The bytes of a number or an element: a kind, then two whole numbers of eight bytes.
-pub const ITEM: usize = 17;
+const ITEM: usize = 17;
 
 /// Reads bytes in hexadecimal; a dot is no bytes.
-pub fn bytes(word: &str) -> Option<Vec<u8>> {
+fn bytes(word: &str) -> Option<Vec<u8>> {
     let word = if word == "." { "" } else { word };
     if word.len() % 2 != 0 || !word.bytes().all(|byte| b"0123456789abcdef".contains(&byte)) {
         return None;

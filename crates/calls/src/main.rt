@@ -12,7 +12,7 @@ use crate::words::decode;
 use crate::words::end_at;
 use crate::words::front;
 use crate::words::is_bytes;
-use crate::words::is_name;
+use crate::words::whole;
 use crate::words::word;
 use console::Input;
 
@@ -22,122 +22,57 @@ const INPUT: usize = 1 << 18;
 // The most bytes of a word in hexadecimal.
 const SPACE: usize = 8192;
 
-// Makes a call of layer 1; gives whether the name is one.
-fn first_layer(name: &[u8], first: &[u8], second: &[u8], third: &[u8]) -> bool {
-    if is_name(name, b"compare") {
-        layers::compare(first, second);
-        return true;
+// Makes a call. Its name stands as the whole number that its bytes are.
+fn make(name: usize, first: &mut [u8], second: &[u8], third: &[u8], fourth: &[u8]) {
+    match name {
+        // compare
+        0x636f6d70617265 => layers::compare(&*first, second),
+        // image
+        0x696d616765 => layers::image(&*first, second),
+        // truncate
+        0x7472756e63617465 => layers::truncate(&*first, second, third),
+        // pack
+        0x7061636b => layers::pack(first, second, third),
+        // unpack
+        0x756e7061636b => layers::unpack(&*first, second),
+        // alpha
+        0x616c706861 => layers::alpha(first, second, third),
+        // legal
+        0x6c6567616c => layers::legal(&*first),
+        // convert
+        0x636f6e76657274 => print_number(codec::convert(&*first)),
+        // place
+        0x706c616365 => layers::place(&*first, second),
+        // numbers
+        0x6e756d62657273 => layers::numbers(&*first, second),
+        // scan
+        0x7363616e => layers::scan(&*first, second),
+        // print
+        0x7072696e74 => layers::print(first, second, third, fourth),
+        // forecast
+        0x666f726563617374 => layers::forecast(&*first, second),
+        // field
+        0x6669656c64 => print_number(records::read_field(&*first)),
+        // contents
+        0x636f6e74656e7473 => layers::contents(first, second),
+        // add
+        0x616464 => layers::add(first, second, third),
+        // show
+        0x73686f77 => layers::show(&*first, second),
+        // list
+        0x6c697374 => layers::list(first, second),
+        // report
+        0x7265706f7274 => layers::report(first, second),
+        _ => print_damaged(),
     }
-    if is_name(name, b"image") {
-        layers::image(first, second);
-        return true;
-    }
-    if is_name(name, b"truncate") {
-        layers::truncate(first, second, third);
-        return true;
-    }
-    false
 }
 
-// Makes a call of layer 2; gives whether the name is one.
-fn second_layer(name: &[u8], first: &mut [u8], second: &[u8], third: &[u8]) -> bool {
-    if is_name(name, b"pack") {
-        layers::pack(&mut *first, second, third);
-        return true;
-    }
-    if is_name(name, b"unpack") {
-        layers::unpack(&*first, second);
-        return true;
-    }
-    if is_name(name, b"alpha") {
-        layers::alpha(&mut *first, second, third);
-        return true;
-    }
-    if is_name(name, b"legal") {
-        layers::legal(&*first);
-        return true;
-    }
-    if is_name(name, b"convert") {
-        print_number(codec::convert(&*first));
-        return true;
-    }
-    if is_name(name, b"place") {
-        layers::place(&*first, second);
-        return true;
-    }
-    if is_name(name, b"numbers") {
-        layers::numbers(&*first, second);
-        return true;
-    }
-    false
-}
-
-// Makes a call of layer 3 on lines; gives whether the name is one.
-fn line_calls(name: &[u8], first: &mut [u8], second: &[u8], third: &[u8], fourth: &[u8]) -> bool {
-    if is_name(name, b"scan") {
-        layers::scan(&*first, second);
-        return true;
-    }
-    if is_name(name, b"print") {
-        layers::print(&mut *first, second, third, fourth);
-        return true;
-    }
-    if is_name(name, b"forecast") {
-        layers::forecast(&*first, second);
-        return true;
-    }
-    if is_name(name, b"field") {
-        print_number(records::read_field(&*first));
-        return true;
-    }
-    false
-}
-
-// Makes a call of layer 3 on files; gives whether the name is one.
-fn file_calls(name: &[u8], first: &mut [u8], second: &[u8], third: &[u8]) -> bool {
-    if is_name(name, b"contents") {
-        layers::contents(&mut *first, second);
-        return true;
-    }
-    if is_name(name, b"add") {
-        layers::add(&mut *first, second, third);
-        return true;
-    }
-    if is_name(name, b"show") {
-        layers::show(&*first, second);
-        return true;
-    }
-    if is_name(name, b"list") {
-        layers::list(&mut *first, second);
-        return true;
-    }
-    if is_name(name, b"report") {
-        layers::report(&mut *first, second);
-        return true;
-    }
-    false
-}
-
-// Makes a call.
-fn make(name: &[u8], first: &mut [u8], second: &[u8], third: &[u8], fourth: &[u8]) {
-    if first_layer(name, &*first, second, third) {
-        return;
-    }
-    if second_layer(name, &mut *first, second, third) {
-        return;
-    }
-    if line_calls(name, &mut *first, second, third, fourth) {
-        return;
-    }
-    if file_calls(name, &mut *first, second, third) {
-        return;
-    }
-    print_damaged();
-}
-
-// Whether the words behind the name are bytes in hexadecimal that fit.
+// Whether the name has at most eight bytes, and the words behind it are bytes in hexadecimal that fit.
 fn is_call(line: &[u8]) -> bool {
     if 2 * SPACE < line.len() {
+        return false;
+    }
+    if 8 < word(line, 0).len() {
         return false;
     }
     let mut i = 1;
@@ -168,7 +103,7 @@ fn answer_line(line: &[u8]) {
         return;
     }
     make(
-        word(line, 0),
+        whole(word(line, 0)),
         &mut first[..a],
         front(&second, b),
         front(&third, c),

@@ -41,21 +41,6 @@ pub(crate) fn word(line: &[u8], index: usize) -> &[u8] {
     &line[start..end]
 }
 
-// Whether a word is a name.
-pub(crate) fn is_name(word: &[u8], name: &[u8]) -> bool {
-    if word.len() != name.len() {
-        return false;
-    }
-    let mut i = 0;
-    while i < word.len() {
-        if word[i] != name[i] {
-            return false;
-        }
-        i += 1;
-    }
-    true
-}
-
 // Whether a byte is a digit in hexadecimal.
 fn is_digit(byte: u8) -> bool {
     match byte {
@@ -67,8 +52,8 @@ fn is_digit(byte: u8) -> bool {
 
 // Whether a word is bytes in hexadecimal, or a dot.
 pub(crate) fn is_bytes(word: &[u8]) -> bool {
-    if is_name(word, b".") {
-        return true;
+    if whole(word) == 0x2e {
+        return word.len() == 1;
     }
     let mut i = 0;
     while i < word.len() {

@@ -11,6 +11,7 @@ use Rattle.calls.proofs.make.Reads as make-reads
 use Rattle.calls.proofs.shown.print_damaged.Reads as print-damaged-reads
 use Rattle.calls.proofs.words.decode.Reads as decode-reads
 use Rattle.calls.proofs.words.front.Reads as front-reads
+use Rattle.calls.proofs.words.whole.Reads as whole-reads
 use Rattle.calls.proofs.words.word.Reads as word-reads
 
 is-call-requires : tie.Need-is-call-requires
@@ -64,6 +65,9 @@ returns-2 c = search needs
 word-requires-5 : tie.Need-word-requires-5
 word-requires-5 c κs = search needs
 
+whole-requires : tie.Need-whole-requires
+whole-requires c κs = search needs
+
 array-borrow-prefix-first : tie.Need-array-borrow-prefix-first
 array-borrow-prefix-first c = search needs
 
@@ -115,6 +119,7 @@ answer-line-spec =
     decode-requires-4
     returns-2
     word-requires-5
+    whole-requires
     array-borrow-prefix-first
     slice-aggregate-make
     slice-aggregate-front

@@ -7,7 +7,7 @@ use Rattle.calls.proofs.words.is_bytes.Tie as tie
 use Rattle.calls.proofs.words.is_bytes.Reads as reads
 use Rattle.calls.proofs.words.is_bytes.Lts as lts
 use Rattle.calls.proofs.words.is_digit.Reads as is-digit-reads
-use Rattle.calls.proofs.words.is_name.Reads as is-name-reads
+use Rattle.calls.proofs.words.whole.Reads as whole-reads
 
 abbrev Inv-loop : tie.InvT-loop
 Inv-loop word i₀ i = i ≤ length word
@@ -15,11 +15,8 @@ Inv-loop word i₀ i = i ≤ length word
 abbrev μ-loop : tie.MeasureT-loop
 μ-loop word i₀ i = length word - i
 
-slice-aggregate-is-name : tie.Need-slice-aggregate-is-name Inv-loop μ-loop
-slice-aggregate-is-name c = search needs
-
-is-name-requires : tie.Need-is-name-requires Inv-loop μ-loop
-is-name-requires c κs = search needs
+whole-requires : tie.Need-whole-requires Inv-loop μ-loop
+whole-requires c κs = search needs
 
 returns : tie.Need-returns Inv-loop μ-loop
 returns c = search needs
@@ -54,8 +51,7 @@ is-bytes-spec =
     (tie.spec
     Inv-loop
     μ-loop
-    slice-aggregate-is-name
-    is-name-requires
+    whole-requires
     returns
     loop-holds
     shared-slice-read-is-digit
