@@ -152,7 +152,7 @@ fn line(random: &mut Random) -> Vec<u8> {
         match random.below(8) {
             0 => line.extend(files::bad_image(random)),
             1 => line.extend(bytes_of(random, b"#####,.^+-", 9)),
-            2 => line.extend(one_of(random, &[&b"#,###,###.##"[..], b"-##,##", b"+#,###^^^^", b"#,,#", b"##^^^^^", b"#.#,#"])),
+            2 | 3 => line.extend(one_of(random, &[&b"#,###"[..], b"#,###.#", b"-##,##", b"#,#,#", b"+#,###^^^^", b"#,,#", b"##^^^^^", b"#.#,#"])),
             _ => line.extend(files::image(random)),
         }
     }
@@ -206,13 +206,14 @@ fn add(random: &mut Random) -> Vec<Vec<u8>> {
     let file = file(random);
     let numbers = list_for(random, &file);
     let body = model::read_file(&file).map_or(3, |(images, _)| model::body_length(&images));
+    let behind = buffer_for(random, body);
     let used = match random.below(16) {
-        0 => file.len() + random.below(40),
-        1 => random.below(file.len() + 1),
-        2 => usize::MAX,
+        0 => file.len() + random.below(behind.len() + 2),
+        1 => file.len() + behind.len() + 1,
+        2 => random.below(file.len() + 1),
+        3 => usize::MAX,
         _ => file.len(),
     };
-    let behind = buffer_for(random, body);
     vec![[file, behind].concat(), size(used), items(&numbers)]
 }
 
@@ -304,10 +305,10 @@ fn words(random: &mut Random, name: &str) -> Vec<Vec<u8>> {
     }
 }
 
-/// The names of the calls.
-const NAMES: [&str; 19] = [
-    "compare", "image", "truncate", "pack", "unpack", "alpha", "legal", "convert", "place", "numbers", "scan", "print", "forecast", "field",
-    "contents", "add", "show", "list", "report",
+/// The names of the calls; those that have most to get wrong stand there more than once.
+const NAMES: [&str; 24] = [
+    "compare", "image", "truncate", "pack", "pack", "unpack", "unpack", "alpha", "legal", "convert", "place", "numbers", "scan", "print",
+    "print", "print", "forecast", "field", "contents", "add", "add", "show", "list", "report",
 ];
 
 /// Damages a line so that it is no call, for most lines.

@@ -52,8 +52,8 @@ fn is_digit(byte: u8) -> bool {
 
 // Whether a word is bytes in hexadecimal, or a dot.
 pub(crate) fn is_bytes(word: &[u8]) -> bool {
-    if whole(word) == 0x2e {
-        return word.len() == 1;
+    if word.len() == 1 {
+        return word[0] == b'.';
     }
     let mut i = 0;
     while i < word.len() {

@@ -4,15 +4,6 @@ use lib.Seq.{length-take-le}
 use borrow.Author.Needs.{needs}
 use Rattle.calls.proofs.answer_line.Statement.{statement}
 use Rattle.calls.proofs.answer_line.Tie as tie
-use Rattle.calls.proofs.answer_line.Reads as reads
-use Rattle.calls.proofs.answer_line.Lts as lts
-use Rattle.calls.proofs.is_call.Reads as is-call-reads
-use Rattle.calls.proofs.make.Reads as make-reads
-use Rattle.calls.proofs.shown.print_damaged.Reads as print-damaged-reads
-use Rattle.calls.proofs.words.decode.Reads as decode-reads
-use Rattle.calls.proofs.words.front.Reads as front-reads
-use Rattle.calls.proofs.words.whole.Reads as whole-reads
-use Rattle.calls.proofs.words.word.Reads as word-reads
 
 is-call-requires : tie.Need-is-call-requires
 is-call-requires c κs = search needs

@@ -5,11 +5,6 @@ use Prim.Native.Nat.{_≤_, _-_}
 use lib.ListN.{length}
 use Rattle.calls.proofs.answer_lines.Statement.{statement}
 use Rattle.calls.proofs.answer_lines.Tie as tie
-use Rattle.calls.proofs.answer_lines.Reads as reads
-use Rattle.calls.proofs.answer_lines.Lts as lts
-use Rattle.calls.proofs.answer_line.Reads as answer-line-reads
-use Rattle.calls.proofs.shown.print_raw.Reads as print-raw-reads
-use Rattle.calls.proofs.words.end_at.Reads as end-at-reads
 
 abbrev Inv-loop : tie.InvT-loop
 Inv-loop input start₀ t4 start = start ≤ length input

@@ -3,10 +3,6 @@ use borrow.Author.Needs.{needs}
 use Prim.Native.Nat.{_≤_, _-_}
 use Rattle.calls.proofs.is_call.Statement.{statement}
 use Rattle.calls.proofs.is_call.Tie as tie
-use Rattle.calls.proofs.is_call.Reads as reads
-use Rattle.calls.proofs.is_call.Lts as lts
-use Rattle.calls.proofs.words.is_bytes.Reads as is-bytes-reads
-use Rattle.calls.proofs.words.word.Reads as word-reads
 
 abbrev Inv-loop : tie.InvT-loop
 Inv-loop line i₀ i = i ≤ 5

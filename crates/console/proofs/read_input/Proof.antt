@@ -6,12 +6,7 @@ use mathlib.Core.Path.{_≡_}
 use lib.ListN.{length}
 use Rattle.console.proofs.read_input.Statement.{statement}
 use Rattle.console.proofs.read_input.Tie as tie
-use Rattle.console.proofs.read_input.Reads as reads
-use Rattle.console.proofs.read_input.Lts as lts
-use Rattle.console.proofs.tell.Reads as tell-reads
 use Rattle.io.proofs.Counting.{counts}
-use Rattle.io.proofs.count.Reads as count-reads
-use Rattle.libc.proofs.read.Reads as read-reads
 
 abbrev Inv-loop : tie.InvT-loop
 Inv-loop buffer₀ size₀ t5 buffer size = (size ≤ length buffer) × (length buffer ≡ length buffer₀)

@@ -2,13 +2,7 @@
 use borrow.Author.Needs.{needs}
 use Rattle.listing.proofs.main.Statement.{statement}
 use Rattle.listing.proofs.main.Tie as tie
-use Rattle.listing.proofs.main.Reads as reads
-use Rattle.listing.proofs.main.Lts as lts
-use Rattle.codec.proofs.written_part.Reads as written-part-reads
 use Rattle.console.proofs.InputLaws.{read-inside}
-use Rattle.console.proofs.read_input.Reads as read-input-reads
-use Rattle.console.proofs.write_output.Reads as write-output-reads
-use Rattle.records.proofs.report.Reads as report-reads
 
 slice-aggregate-read-input : tie.Need-slice-aggregate-read-input
 slice-aggregate-read-input c = search needs

@@ -6,9 +6,6 @@ use mathlib.Core.Path.{_≡_}
 use Rattle.records.specs.Printing.{maxElements}
 use Rattle.calls.proofs.items.elements_in.Statement.{statement}
 use Rattle.calls.proofs.items.elements_in.Tie as tie
-use Rattle.calls.proofs.items.elements_in.Reads as reads
-use Rattle.calls.proofs.items.elements_in.Lts as lts
-use Rattle.calls.proofs.items.element_at.Reads as element-at-reads
 
 abbrev Inv-loop : tie.InvT-loop
 Inv-loop bytes elements₀ at₀ i₀ elements at i = (at ≤ length bytes) × (i ≤ maxElements) × (length elements ≡ maxElements)

@@ -6,10 +6,6 @@ use mathlib.Core.Path.{_≡_}
 use Rattle.codec.specs.Lists.{maxColumns}
 use Rattle.calls.proofs.items.numbers_in.Statement.{statement}
 use Rattle.calls.proofs.items.numbers_in.Tie as tie
-use Rattle.calls.proofs.items.numbers_in.Reads as reads
-use Rattle.calls.proofs.items.numbers_in.Lts as lts
-use Rattle.calls.proofs.items.element_at.Reads as element-at-reads
-use Rattle.calls.proofs.items.number_of.Reads as number-of-reads
 
 abbrev Inv-loop : tie.InvT-loop
 Inv-loop bytes values₀ count at₀ i₀ values at i = (at ≤ length bytes) × (i ≤ maxColumns) × (length values ≡ maxColumns)

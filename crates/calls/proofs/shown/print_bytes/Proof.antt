@@ -4,10 +4,6 @@ use Prim.Native.Nat.{_≤_, _-_}
 use lib.ListN.{length}
 use Rattle.calls.proofs.shown.print_bytes.Statement.{statement}
 use Rattle.calls.proofs.shown.print_bytes.Tie as tie
-use Rattle.calls.proofs.shown.print_bytes.Reads as reads
-use Rattle.calls.proofs.shown.print_bytes.Lts as lts
-use Rattle.calls.proofs.shown.print_byte.Reads as print-byte-reads
-use Rattle.calls.proofs.shown.print_raw.Reads as print-raw-reads
 
 abbrev Inv-loop : tie.InvT-loop
 Inv-loop bytes i₀ i = i ≤ length bytes

@@ -4,10 +4,6 @@ use Prim.Native.Nat.{_≤_, _-_}
 use Rattle.codec.specs.Lists.{maxColumns}
 use Rattle.calls.proofs.shown.print_numbers.Statement.{statement}
 use Rattle.calls.proofs.shown.print_numbers.Tie as tie
-use Rattle.calls.proofs.shown.print_numbers.Reads as reads
-use Rattle.calls.proofs.shown.print_numbers.Lts as lts
-use Rattle.calls.proofs.shown.print_count.Reads as print-count-reads
-use Rattle.calls.proofs.shown.print_parts.Reads as print-parts-reads
 
 abbrev Inv-loop : tie.InvT-loop
 Inv-loop values i₀ i = i ≤ maxColumns

@@ -6,9 +6,6 @@ use lib.ListN.{length, length-set}
 use mathlib.Core.Path.{_≡_}
 use Rattle.calls.proofs.words.decode.Statement.{statement}
 use Rattle.calls.proofs.words.decode.Tie as tie
-use Rattle.calls.proofs.words.decode.Reads as reads
-use Rattle.calls.proofs.words.decode.Lts as lts
-use Rattle.calls.proofs.words.byte_of.Reads as byte-of-reads
 
 abbrev Inv-loop : tie.InvT-loop
 Inv-loop word buffer₀ at₀ count₀ buffer at count = (at ≤ length word) × (count ≤ length buffer) × (length buffer ≡ length buffer₀)

@@ -4,8 +4,6 @@ use Prim.Native.Nat.{_≤_, _-_}
 use lib.ListN.{length}
 use Rattle.calls.proofs.words.end_at.Statement.{statement}
 use Rattle.calls.proofs.words.end_at.Tie as tie
-use Rattle.calls.proofs.words.end_at.Reads as reads
-use Rattle.calls.proofs.words.end_at.Lts as lts
 
 abbrev Inv-loop : tie.InvT-loop
 Inv-loop bytes start mark end₀ end = (start ≤ end) × (end ≤ length bytes)

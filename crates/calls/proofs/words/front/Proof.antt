@@ -4,8 +4,6 @@ use lib.Seq.{length-take-le}
 use borrow.Author.Needs.{needs}
 use Rattle.calls.proofs.words.front.Statement.{statement}
 use Rattle.calls.proofs.words.front.Tie as tie
-use Rattle.calls.proofs.words.front.Reads as reads
-use Rattle.calls.proofs.words.front.Lts as lts
 
 returns : tie.Need-returns
 returns c = search needs

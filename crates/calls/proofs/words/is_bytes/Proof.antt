@@ -4,10 +4,6 @@ use Prim.Native.Nat.{_≤_, _-_}
 use lib.ListN.{length}
 use Rattle.calls.proofs.words.is_bytes.Statement.{statement}
 use Rattle.calls.proofs.words.is_bytes.Tie as tie
-use Rattle.calls.proofs.words.is_bytes.Reads as reads
-use Rattle.calls.proofs.words.is_bytes.Lts as lts
-use Rattle.calls.proofs.words.is_digit.Reads as is-digit-reads
-use Rattle.calls.proofs.words.whole.Reads as whole-reads
 
 abbrev Inv-loop : tie.InvT-loop
 Inv-loop word i₀ i = i ≤ length word
@@ -15,8 +11,8 @@ Inv-loop word i₀ i = i ≤ length word
 abbrev μ-loop : tie.MeasureT-loop
 μ-loop word i₀ i = length word - i
 
-whole-requires : tie.Need-whole-requires Inv-loop μ-loop
-whole-requires c κs = search needs
+shared-slice-read-result : tie.Need-shared-slice-read-result Inv-loop μ-loop
+shared-slice-read-result c = search needs
 
 returns : tie.Need-returns Inv-loop μ-loop
 returns c = search needs
@@ -51,7 +47,7 @@ is-bytes-spec =
     (tie.spec
     Inv-loop
     μ-loop
-    whole-requires
+    shared-slice-read-result
     returns
     loop-holds
     shared-slice-read-is-digit

@@ -4,9 +4,6 @@ use Prim.Native.Nat.{_≤_, _-_}
 use lib.ListN.{length}
 use Rattle.calls.proofs.words.whole.Statement.{statement}
 use Rattle.calls.proofs.words.whole.Tie as tie
-use Rattle.calls.proofs.words.whole.Reads as reads
-use Rattle.calls.proofs.words.whole.Lts as lts
-use Rattle.calls.proofs.words.wide.Reads as wide-reads
 
 abbrev Inv-loop : tie.InvT-loop
 Inv-loop bytes value₀ i₀ value i = i ≤ length bytes

@@ -4,9 +4,6 @@ use Prim.Native.Nat.{_≤_}
 use lib.ListN.{length}
 use Rattle.calls.proofs.words.word.Statement.{statement}
 use Rattle.calls.proofs.words.word.Tie as tie
-use Rattle.calls.proofs.words.word.Reads as reads
-use Rattle.calls.proofs.words.word.Lts as lts
-use Rattle.calls.proofs.words.end_at.Reads as end-at-reads
 
 abbrev Inv-loop : tie.InvT-loop
 Inv-loop line index start₀ left₀ start left = start ≤ length line
