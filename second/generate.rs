@@ -226,65 +226,87 @@ fn print(random: &mut Random) -> Vec<Vec<u8>> {
     vec![buffer_for(random, length), line, list, texts]
 }
 
+/// Gives an image, and a number that mostly can be truncated under it.
+fn image_and_number(random: &mut Random) -> (Vec<u8>, Vec<u8>) {
+    let image = image(random);
+    let number = match model::read_image(&image, 0) {
+        Ok(image) if random.below(3) > 0 => number_for(random, &image),
+        _ => any_number(random),
+    };
+    (image, items(&[number]))
+}
+
+/// Gives two numbers, at times the same but for the sign.
+fn two_numbers(random: &mut Random) -> Vec<Vec<u8>> {
+    let first = any_number(random);
+    let second = if random.below(3) == 0 { Number { negative: random.below(2) == 0, ..first } } else { any_number(random) };
+    vec![items(&[first]), items(&[second])]
+}
+
+/// Gives the words of a call that packs.
+fn pack(random: &mut Random) -> Vec<Vec<u8>> {
+    let contents = contents(random);
+    let numbers = list_for(random, &contents);
+    let length = model::read_contents_alone(&contents).map_or(2, |images| model::body_length(&images));
+    vec![buffer_for(random, length), contents, items(&numbers)]
+}
+
+/// Gives a contents and a body, at times a damaged one.
+fn unpack(random: &mut Random) -> Vec<Vec<u8>> {
+    let contents = contents(random);
+    let numbers = list_for(random, &contents);
+    let mut body = model::pack(&contents, &numbers, usize::MAX).unwrap_or_default();
+    match random.below(8) {
+        0..=2 => files::change(random, &mut body, 0),
+        3 => body.push(0),
+        _ => {}
+    }
+    vec![contents, body]
+}
+
+/// Gives a text with a comma or a blank put in at times.
+fn field(random: &mut Random) -> Vec<u8> {
+    let mut field = text(random);
+    if random.below(2) == 0 {
+        field.insert(random.below(field.len() + 1), one_of(random, b", "));
+    }
+    field
+}
+
+/// Gives a place in bytes: mostly inside them, at times far outside.
+fn place_in(random: &mut Random, bytes: &[u8]) -> Vec<u8> {
+    let place = random.below(bytes.len() + 3);
+    size(one_of(random, &[0, 0, 0, 0, place, place, place, place, place, usize::MAX]))
+}
+
+/// Gives the words of a call that lists a file.
+fn listing(random: &mut Random, name: &str) -> Vec<Vec<u8>> {
+    let file = file(random);
+    let whole = if name == "list" { model::listing(&file).unwrap_or_default() } else { model::listing_output(&file) };
+    vec![buffer_for(random, whole.len()), file]
+}
+
 /// Gives the words of a call by its name.
 fn words(random: &mut Random, name: &str) -> Vec<Vec<u8>> {
     match name {
-        "compare" => {
-            let first = any_number(random);
-            let second = if random.below(3) == 0 { Number { negative: random.below(2) == 0, ..first } } else { any_number(random) };
-            vec![items(&[first]), items(&[second])]
-        }
+        "compare" => two_numbers(random),
         "image" => vec![image(random), size(random.below(20))],
         "truncate" => {
-            let image = image(random);
-            let number = match model::read_image(&image, 0) {
-                Ok(image) if random.below(3) > 0 => number_for(random, &image),
-                _ => any_number(random),
-            };
-            vec![image, items(&[number]), size(random.below(16))]
+            let (image, number) = image_and_number(random);
+            vec![image, number, size(random.below(16))]
         }
-        "pack" => {
-            let contents = contents(random);
-            let numbers = list_for(random, &contents);
-            let length = model::read_contents_alone(&contents).map_or(2, |images| model::body_length(&images));
-            vec![buffer_for(random, length), contents, items(&numbers)]
-        }
-        "unpack" => {
-            let contents = contents(random);
-            let numbers = list_for(random, &contents);
-            let mut body = model::pack(&contents, &numbers, usize::MAX).unwrap_or_default();
-            match random.below(8) {
-                0..=2 => files::change(random, &mut body, 0),
-                3 => body.push(0),
-                _ => {}
-            }
-            vec![contents, body]
-        }
+        "pack" => pack(random),
+        "unpack" => unpack(random),
         "alpha" => {
-            let image = image(random);
-            let number = match model::read_image(&image, 0) {
-                Ok(image) if random.below(3) > 0 => number_for(random, &image),
-                _ => any_number(random),
-            };
-            vec![buffer_for(random, image.len()), image, items(&[number])]
+            let (image, number) = image_and_number(random);
+            vec![buffer_for(random, image.len()), image, number]
         }
         "legal" | "convert" => vec![text(random)],
-        "field" => {
-            let mut field = text(random);
-            if random.below(2) == 0 {
-                field.insert(random.below(field.len() + 1), one_of(random, b", "));
-            }
-            vec![field]
-        }
-        "place" | "numbers" => {
-            let text = long_text(random);
-            let from = if random.below(2) == 0 { 0 } else { random.below(text.len() + 3) };
-            vec![text, size(if random.below(20) == 0 { usize::MAX } else { from })]
-        }
-        "scan" => {
-            let line = line(random);
-            let at = random.below(line.len() + 2);
-            vec![line, size(if random.below(20) == 0 { usize::MAX } else { at })]
+        "field" => vec![field(random)],
+        "place" | "numbers" | "scan" => {
+            let bytes = if name == "scan" { line(random) } else { long_text(random) };
+            let place = place_in(random, &bytes);
+            vec![bytes, place]
         }
         "print" => print(random),
         "forecast" => {
@@ -296,12 +318,8 @@ fn words(random: &mut Random, name: &str) -> Vec<Vec<u8>> {
             vec![buffer_for(random, contents.len()), contents]
         }
         "add" => add(random),
-        "show" => vec![file(random), size(if random.below(20) == 0 { usize::MAX } else { random.below(7) })],
-        _ => {
-            let file = file(random);
-            let length = if name == "list" { model::listing(&file).map_or(4, |output| output.len()) } else { model::listing_output(&file).len() };
-            vec![buffer_for(random, length), file]
-        }
+        "show" => vec![file(random), size(one_of(random, &[0, 0, 1, 1, 2, 3, 4, 5, 6, usize::MAX]))],
+        _ => listing(random, name),
     }
 }
 

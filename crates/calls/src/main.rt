@@ -22,46 +22,28 @@ const INPUT: usize = 1 << 18;
 // The most bytes of a word in hexadecimal.
 const SPACE: usize = 8192;
 
-// Makes a call. Its name stands as the whole number that its bytes are.
+// Makes a call. Its name stands as the whole number that its bytes are: compare, image, truncate; pack, unpack, alpha, legal, convert, place,
+// numbers; scan, print, forecast, field; contents, add, show, list, report.
 fn make(name: usize, first: &mut [u8], second: &[u8], third: &[u8], fourth: &[u8]) {
     match name {
-        // compare
         0x636f6d70617265 => layers::compare(&*first, second),
-        // image
         0x696d616765 => layers::image(&*first, second),
-        // truncate
         0x7472756e63617465 => layers::truncate(&*first, second, third),
-        // pack
         0x7061636b => layers::pack(first, second, third),
-        // unpack
         0x756e7061636b => layers::unpack(&*first, second),
-        // alpha
         0x616c706861 => layers::alpha(first, second, third),
-        // legal
         0x6c6567616c => layers::legal(&*first),
-        // convert
         0x636f6e76657274 => print_number(codec::convert(&*first)),
-        // place
         0x706c616365 => layers::place(&*first, second),
-        // numbers
         0x6e756d62657273 => layers::numbers(&*first, second),
-        // scan
         0x7363616e => layers::scan(&*first, second),
-        // print
         0x7072696e74 => layers::print(first, second, third, fourth),
-        // forecast
         0x666f726563617374 => layers::forecast(&*first, second),
-        // field
         0x6669656c64 => print_number(records::read_field(&*first)),
-        // contents
         0x636f6e74656e7473 => layers::contents(first, second),
-        // add
         0x616464 => layers::add(first, second, third),
-        // show
         0x73686f77 => layers::show(&*first, second),
-        // list
         0x6c697374 => layers::list(first, second),
-        // report
         0x7265706f7274 => layers::report(first, second),
         _ => print_damaged(),
     }

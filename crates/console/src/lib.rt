@@ -1,5 +1,8 @@
 // Reading standard input and writing standard output, where a failure is not taken for the end of the input or for success: programs have
 // no exit status, so a line on standard error tells it.
+ghost use mathlib.Core.Path.{_≡_};
+ghost use mathlib.Core.Bool.{true};
+ghost use lib.ListN.{length};
 ghost use Rattle.console.specs.Within.{Within};
 use libc::STDERR_FILENO;
 use libc::STDIN_FILENO;
@@ -31,11 +34,18 @@ pub fn read_input(buffer: &mut [u8]) -> Input
     Input::Bytes(size)
 }
 
-// Writes bytes to standard output; a failed write is told.
-pub fn write_output(bytes: &[u8]) {
-    if !io::write_all(STDOUT_FILENO, bytes) {
-        tell(b"writing standard output failed\n");
+// Writes bytes to standard output, and gives whether all are written, as no bytes are from the start; a failed write is told.
+pub fn write_output(bytes: &[u8]) -> bool
+    ensures { λ r. ⌜ (length (now (bytes .entry)) ≡ 0 → r ≡ true) ⌝ }
+{
+    if bytes.len() == 0 {
+        return true;
     }
+    if io::write_all(STDOUT_FILENO, bytes) {
+        return true;
+    }
+    tell(b"writing standard output failed\n");
+    false
 }
 
 // Writes a line to standard error.
