@@ -1,4 +1,5 @@
-//! Document 01 as plain functions on slices: a second implementation, written from the document alone.
+//! Document 01 as plain functions on slices: a second implementation, written from the document alone, but for `compare`,
+//! `next_number_place` and `read_text_numbers`, which the document does not have.
 //! Each program that includes this file uses only some of the functions.
 #![allow(dead_code)]
 
