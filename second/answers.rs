@@ -203,6 +203,7 @@ fn call(line: &str) -> Option<String> {
         "unpack" => unpack(&a, &b),
         "alpha" => written(model::alpha(&b, &number(&c), a.len()), &a),
         "legal" => format!("ok {}", model::legal_length(&a)),
+        "read" => answer(model::read_text_number(&a), |(found, used)| format!("{} {used}", number_words(&found))),
         "convert" => answer(model::convert(&a), |found| number_words(&found)),
         "place" => format!("ok {}", model::next_number_place(&a, whole(&b) as usize)),
         "numbers" => text_numbers(&a, &b),

@@ -105,6 +105,9 @@ fn make_call(words: &[&str]) -> Option<String> {
             bytes_answer(model::alpha(&bytes(image)?, &number(value)?, size(room)?))
         }
         ["legal", text] => format!("ok {}", model::legal_length(&bytes(text)?)),
+        ["read", text] => {
+            answer(model::read_text_number(&bytes(text)?), |(found, used)| format!("{} {used}", number_words(&found)))
+        }
         ["convert", text] => number_answer(model::convert(&bytes(text)?)),
         ["field", field] => number_answer(model::read_field(&bytes(field)?)),
         ["print", line, elements, texts, room] => print_answer(line, elements, texts, room)?,

@@ -301,7 +301,7 @@ fn words(random: &mut Random, name: &str) -> Vec<Vec<u8>> {
             let (image, number) = image_and_number(random);
             vec![buffer_for(random, image.len()), image, number]
         }
-        "legal" | "convert" => vec![text(random)],
+        "legal" | "read" | "convert" => vec![text(random)],
         "field" => vec![field(random)],
         "place" | "numbers" | "scan" => {
             let bytes = if name == "scan" { line(random) } else { long_text(random) };
@@ -324,8 +324,8 @@ fn words(random: &mut Random, name: &str) -> Vec<Vec<u8>> {
 }
 
 /// The names of the calls; those that have most to get wrong stand there more than once.
-const NAMES: [&str; 24] = [
-    "compare", "image", "truncate", "pack", "pack", "unpack", "unpack", "alpha", "legal", "convert", "place", "numbers", "scan", "print",
+const NAMES: [&str; 25] = [
+    "compare", "image", "truncate", "pack", "pack", "unpack", "unpack", "alpha", "legal", "read", "convert", "place", "numbers", "scan", "print",
     "print", "print", "forecast", "field", "contents", "add", "add", "show", "list", "report",
 ];
 

@@ -462,6 +462,14 @@ pub fn legal_length(text: &[u8]) -> usize {
     (1..=text.len()).rev().find(|&length| text_form(&text[..length]).is_some()).unwrap_or(0)
 }
 
+/// The call that reads a text number (document 02, (i)): the longest legal beginning gives its number and how many bytes it used.
+pub fn read_text_number(text: &[u8]) -> Result<(Number, usize), Refusal> {
+    match legal_length(text) {
+        0 => refuse(8, 0),
+        used => convert(&text[..used]).map(|number| (number, used)),
+    }
+}
+
 /// The call that converts the whole of a text.
 pub fn convert(text: &[u8]) -> Result<Number, Refusal> {
     let Some((negative, whole, scale)) = text_form(text) else { return refuse(8, 0) };

@@ -79,13 +79,26 @@ fn body_row(image: &str, body: &[u8]) -> String {
     format!("{image} body {}: {answer}\n", hexadecimal_words(body))
 }
 
-/// Gives the row of a text: its legal length and its number, or the refusal.
-fn text_row(text: &str) -> String {
-    let answer = match model::convert(text.as_bytes()) {
+/// Gives the number of a whole text, or the refusal.
+fn converted_words(text: &str) -> String {
+    match model::convert(text.as_bytes()) {
         Ok(number) => number_words(&number),
         Err(refusal) => refusal_words(refusal),
+    }
+}
+
+/// Gives the row of a text: its legal length and its number, or the refusal.
+fn text_row(text: &str) -> String {
+    format!("'{text}': length {}, {}\n", model::legal_length(text.as_bytes()), converted_words(text))
+}
+
+/// Gives what is read of a text, and what the whole of it is converted to.
+fn read_words(text: &str) -> String {
+    let read = match model::read_text_number(text.as_bytes()) {
+        Ok((number, used)) => format!("{}, used {used}", number_words(&number)),
+        Err(refusal) => refusal_words(refusal),
     };
-    format!("'{text}': length {}, {answer}\n", model::legal_length(text.as_bytes()))
+    format!("reads {read}; whole {}\n", converted_words(text))
 }
 
 /// Gives the elements of a list parted by semicolons: a text number is a number, anything else a text.
@@ -188,6 +201,13 @@ fn text_rows() -> String {
     texts.iter().map(|text| text_row(text)).collect()
 }
 
+/// Gives the rows of texts with a remark behind the number, and of texts without a number: document 02, (i).
+fn read_rows() -> String {
+    let texts = ["0012.5 torn", "12E99 torn", "12E99", "torn", "", "   ", "1 2", "-", "12345678901234"];
+    let short: String = texts.iter().map(|text| format!("'{text}': {}", read_words(text))).collect();
+    short + "4095 blanks and 7: " + &read_words(&(" ".repeat(4_095) + "7"))
+}
+
 /// Gives the rows of printed lines: known values, then sources 000, 001 and 004.
 fn line_rows() -> String {
     let rows = [
@@ -240,6 +260,6 @@ fn fields_rows() -> String {
 
 /// Prints all rows.
 fn main() -> std::io::Result<()> {
-    let rows = [image_rows(), size_rows(), body_rows(), text_rows(), line_rows(), fields_rows()];
+    let rows = [image_rows(), size_rows(), body_rows(), text_rows(), read_rows(), line_rows(), fields_rows()];
     std::io::stdout().write_all(rows.concat().as_bytes())
 }

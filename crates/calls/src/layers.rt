@@ -15,9 +15,11 @@ use crate::shown::print_refusal;
 use crate::shown::print_written;
 use crate::words::front;
 use crate::words::whole;
+use codec::TextAnswer;
 use codec::WalkAnswer;
 use decimal::Image;
 use decimal::ImageAnswer;
+use decimal::NumberAnswer;
 use decimal::Order;
 use decimal::OrderAnswer;
 use decimal::Sign;
@@ -51,6 +53,17 @@ pub(crate) fn alpha(buffer: &mut [u8], image: &[u8], number: &[u8]) {
 pub(crate) fn legal(text: &[u8]) {
     print_raw(b"ok");
     print_count(codec::legal_length(text));
+}
+
+// read TEXT: the number, and the bytes used.
+pub(crate) fn read(text: &[u8]) {
+    match codec::read_text_number(text) {
+        TextAnswer::Refused(refusal) => print_refusal(refusal),
+        TextAnswer::Number(number, used) => {
+            print_number(NumberAnswer::Number(number));
+            print_count(used);
+        }
+    }
 }
 
 // place TEXT FROM

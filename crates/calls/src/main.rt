@@ -22,8 +22,8 @@ const INPUT: usize = 1 << 18;
 // The most bytes of a word in hexadecimal.
 const SPACE: usize = 8192;
 
-// Makes a call. Its name stands as the whole number that its bytes are: compare, image, truncate; pack, unpack, alpha, legal, convert, place,
-// numbers; scan, print, forecast, field; contents, add, show, list, report.
+// Makes a call. Its name stands as the whole number that its bytes are: compare, image, truncate; pack, unpack, alpha, legal, read, convert,
+// place, numbers; scan, print, forecast, field; contents, add, show, list, report.
 fn make(name: usize, first: &mut [u8], second: &[u8], third: &[u8], fourth: &[u8]) {
     match name {
         0x636f6d70617265 => layers::compare(&*first, second),
@@ -33,6 +33,7 @@ fn make(name: usize, first: &mut [u8], second: &[u8], third: &[u8], fourth: &[u8
         0x756e7061636b => layers::unpack(&*first, second),
         0x616c706861 => layers::alpha(first, second, third),
         0x6c6567616c => layers::legal(&*first),
+        0x72656164 => layers::read(&*first),
         0x636f6e76657274 => print_number(codec::convert(&*first)),
         0x706c616365 => layers::place(&*first, second),
         0x6e756d62657273 => layers::numbers(&*first, second),

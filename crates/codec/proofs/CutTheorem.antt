@@ -5,7 +5,6 @@ use mathlib.Core.Path.{_≡_, refl, ap, sym, subst, _∙_}
 use mathlib.Core.Logic.{_↔_, ⊎-elim}
 use mathlib.Core.List.{List, [], _∷_}
 use native.Mathlib.Omega.{arith}
-use native.Mathlib.Nat.{le-antisymm}
 use lib.ListN.{length, take, drop, length-drop, drop-of-length-le}
 use lib.Seq.{drop-drop}
 use Rattle.decimal.specs.declared.number.Number.{Number}
@@ -17,22 +16,10 @@ use Rattle.codec.specs.declared.walking.WalkAnswer.the-variants as gives
 use Rattle.codec.specs.Lists.{maxColumns}
 use Rattle.codec.specs.Text.{LongestForm, readingIn, legalLength, convertText}
 use Rattle.codec.specs.Walking.{Walk, stopBefore, stopped, numbersIn, walking, walkMeaning, Foremost, Cut}
-use Rattle.codec.proofs.LongestTheorem.{longest, empty-length, beginning-converts}
+use Rattle.codec.proofs.LongestTheorem.{longest, longest-unique, empty-length, beginning-converts}
 use Rattle.codec.proofs.WalkLaws.{stop-end, stop-none, stop-many, behind, numbers-stop, numbers-full, numbers-number, numbers-refused}
 
 -- The longest beginning.
-
--- of two lengths of which each is the longest, neither is shorter
-longest-least : {bytes : List ℕ} {a b : ℕ} → LongestForm bytes a → LongestForm bytes b → a ≤ b
-longest-least {bytes} {a} {b} p q =
-    ⊎-elim
-    (λ (none : a ≡ 0). omega arith)
-    (λ (some : a ≡ 0 → ⊥). let form = p .has-form some in q .longest a (form .0) (p .inside) (form .1))
-    (zero-or-not a)
-
--- Published: one length is the longest.
-pub longest-unique : {bytes : List ℕ} {a b : ℕ} → LongestForm bytes a → LongestForm bytes b → a ≡ b
-longest-unique p q = le-antisymm (longest-least p q) (longest-least q p)
 
 -- where a text number begins, it is foremost
 foremost : (bytes : List ℕ) → (legalLength bytes ≡ 0 → ⊥) → {a : Answer Number} → readingIn bytes .number ≡ a → Foremost bytes (legalLength bytes) a

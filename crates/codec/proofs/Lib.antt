@@ -25,6 +25,7 @@ pub mod TextLaws
 pub mod FormLaws
 pub mod LongestTheorem
 pub mod AlphaForm
+pub mod ReadingTheorem
 pub mod WalkLaws
 pub mod CutTheorem
 pub mod WalkTheorem

@@ -4,6 +4,7 @@ use Prim.Native.Nat.{ℕ, zero, suc, _+_, _-_, _≤_}
 use mathlib.Core.Path.{_≡_, refl, ap, sym, subst, _∙_}
 use mathlib.Core.Logic.{_⊎_, inl, inr, ⊎-elim}
 use mathlib.Core.List.{List, [], _++_, append-nil}
+use native.Mathlib.Nat.{le-antisymm}
 use native.Mathlib.Omega.{arith}
 use lib.ListN.{length, take, drop, length-append, take-append-drop}
 use lib.Seq.{length-take-le, drop-at, drop-append-seam, drop-drop}
@@ -311,6 +312,18 @@ longest bytes =
       longest = λ n t inside form. omega (arith, beginning-covered bytes n t inside form .long);
     })
     (zero-or-not (length (allDigitsOf (partsIn bytes .numeral))))
+
+-- of two lengths of which each is the longest, neither is shorter
+longest-least : {bytes : List ℕ} {a b : ℕ} → LongestForm bytes a → LongestForm bytes b → a ≤ b
+longest-least {bytes} {a} {b} p q =
+    ⊎-elim
+    (λ (none : a ≡ 0). omega arith)
+    (λ (some : a ≡ 0 → ⊥). let form = p .has-form some in q .longest a (form .0) (p .inside) (form .1))
+    (zero-or-not a)
+
+-- Published: one length is the longest.
+pub longest-unique : {bytes : List ℕ} {a b : ℕ} → LongestForm bytes a → LongestForm bytes b → a ≡ b
+longest-unique p q = le-antisymm (longest-least p q) (longest-least q p)
 
 -- What is read of bytes, and converting.
 

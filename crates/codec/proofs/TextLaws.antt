@@ -15,10 +15,11 @@ use lib.Seq.{drop-cons, drop-drop}
 use Rattle.decimal.specs.declared.image.Sign.{Sign}
 use Rattle.decimal.specs.declared.image.Sign.the-variants.{Unsigned, Plus, Minus}
 use Rattle.decimal.specs.declared.number.Number.{Number}
-use Rattle.decimal.specs.Answer.{Answer, refused, pick}
+use Rattle.decimal.specs.Answer.{Answer, done, refused, _then_, pick}
 use Rattle.decimal.specs.Digits.{precision, Digits, valueOf}
 use Rattle.decimal.specs.Number.{exponentLimit, scaledNumber}
 use Rattle.decimal.specs.Image.{plusByte, minusByte, pointByte, signBytes, signOf}
+use Rattle.decimal.proofs.AnswerLaws.{then-next, then-refused}
 use Rattle.decimal.proofs.BoolLaws.{and-true, zero-or-not}
 use Rattle.decimal.proofs.PowerLaws.{pow10-add, pow10-suc, pow10-mono, times-ten, times-power}
 use Rattle.decimal.proofs.DigitLaws.{le-or-lt, value-append, value-below}
@@ -58,6 +59,8 @@ use Rattle.codec.specs.Text.{
   readingOf,
   readingIn,
   legalLength,
+  TextNumber,
+  readText,
   convertText,
   heldDigits,
   DigitsFit,
@@ -752,3 +755,34 @@ module _ (bytes : List ℕ) {used : ℕ} {number : Answer Number} (e : _≡_ {A 
   -- its number
   pub read-number : readingIn bytes .number ≡ number
   read-number = sym (ap (λ (r : TextReading). r .number) e)
+
+-- What reading a text number gives, by what bytes are read as.
+
+module _ (bytes : List ℕ) where
+  -- nothing where the legal length is 0
+  pub reads-none : legalLength bytes ≡ 0 → readText bytes ≡ refused 8 0
+  unfolding readText
+  reads-none none = rw (eq-eqb (legalLength bytes) 0 none)
+
+  -- a number with the legal length
+  abbrev withLength : Number → Answer TextNumber
+  withLength n = done (record { number = n; used = legalLength bytes })
+
+  -- it is the number with the legal length, also where that is 0 and there is none
+  reads-then : readText bytes ≡ (readingIn bytes .number then withLength)
+  unfolding readText
+  reads-then =
+      ⊎-elim
+      (λ (none : legalLength bytes ≡ 0).
+      reads-none none ∙ sym (then-refused withLength (ap (λ (r : TextReading). r .number) (reading-empty bytes none))))
+      (λ (some : legalLength bytes ≡ 0 → ⊥). rw (ne-eqb (legalLength bytes) 0 some))
+      (zero-or-not (legalLength bytes))
+
+  -- a number
+  pub reads-number : {n : Number} {used : ℕ} → used ≡ legalLength bytes → readingIn bytes .number ≡ done n
+      → readText bytes ≡ done (record { number = n; used = used })
+  reads-number {n} size e = reads-then ∙ then-next withLength e ∙ (λ i. done (record { number = n; used = sym size i }))
+
+  -- a refusal
+  pub reads-refused : {number place : ℕ} → readingIn bytes .number ≡ refused number place → readText bytes ≡ refused number place
+  reads-refused e = reads-then ∙ then-refused withLength e

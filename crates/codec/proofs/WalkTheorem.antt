@@ -1,36 +1,29 @@
 -- Document 01, Record file: the alpha texts of a list, parted by one blank each, are read back by walking them, as a line of the listing
 -- program has them. Assumes nothing.
-use Prim.Native.Nat.{ℕ, zero, suc, _+_, _-_, _*_, _^_, _<_, _≤_}
+use Prim.Native.Nat.{ℕ, zero, suc, _+_, _-_, _<_, _≤_}
 use mathlib.Core.Path.{_≡_, refl, ap, sym, subst, _∙_}
 use mathlib.Core.List.{List, [], _∷_, _++_, append-nil, append-assoc}
 use mathlib.Core.Bool.{Bool, true, false}
-use mathlib.Core.Logic.{⊎-elim}
 use native.Mathlib.Nat.{zero-add}
 use native.Mathlib.Omega.{arith}
 use borrow.Author.Tests.{eqb-true, eqb-false}
-use lib.Dec.{ltb, eqb}
+use lib.Dec.{eqb}
 use lib.ListN.{length, drop, length-append, length-drop}
 use lib.Seq.{drop-append-seam, drop-drop}
 use Rattle.decimal.specs.declared.image.Image.{Image}
 use Rattle.decimal.specs.declared.number.Number.{Number}
-use Rattle.decimal.specs.Answer.{Answer, done, refused, _then_, pick}
-use Rattle.decimal.specs.Digits.{precision, valueOf, leadingZeros}
-use Rattle.decimal.specs.Number.{exponentLimit, shiftedNumber, scaledNumber}
+use Rattle.decimal.specs.Answer.{Answer, done, _then_, pick}
 use Rattle.decimal.specs.Image.{signBytes, times, imageBytes, readImage}
 use Rattle.decimal.specs.Truncation.{Truncated, truncation}
-use Rattle.decimal.proofs.BoolLaws.{zero-or-not}
-use Rattle.decimal.proofs.PowerLaws.{pow10-mono}
-use Rattle.decimal.proofs.DigitLaws.{value-below}
-use Rattle.decimal.proofs.NumberLaws.{scaled-zero, scaled-shifted}
 use Rattle.decimal.proofs.TruncationLaws.{truncation-fit}
 use Rattle.codec.specs.Lists.{maxColumns}
 use Rattle.codec.specs.Alpha.{blankByte, alphaText, alphaUnder, alphaOf, alphaTexts, parted}
-use Rattle.codec.specs.Text.{TextParts, Legal, HasForm, fractionDigits, allDigitsOf, textBytes, isMinus, powerValue, textValue, blanksIn, signIn, digitsIn, pointIn, powerIn, numeralIn, partsIn, readingIn, legalLength, readTexts}
+use Rattle.codec.specs.Text.{TextParts, Legal, HasForm, fractionDigits, allDigitsOf, textBytes, textValue, blanksIn, signIn, digitsIn, pointIn, powerIn, numeralIn, partsIn, readingIn, legalLength, readTexts}
 use Rattle.codec.specs.Walking.{bytesBefore, numberPlace, FirstPlace, stopBefore, stopped, numbersIn, walking, lineEnd, LineBack}
 use Rattle.decimal.proofs.AnswerLaws.{then-done}
-use Rattle.codec.proofs.TextLaws.{text-length, text-long, legal-none, legal-some, reading-number}
+use Rattle.codec.proofs.TextLaws.{text-length, text-long, legal-some, reading-number}
 use Rattle.codec.proofs.PartLaws.{stops-byte, sign-no-blank}
-use Rattle.codec.proofs.FormLaws.{Ends, ends-blanks, ends-last, text-append, starts-numeral, parts-before, form-of-parts, converts-form}
+use Rattle.codec.proofs.FormLaws.{Ends, ends-blanks, ends-last, text-append, starts-numeral, parts-before, converts-form}
 use Rattle.codec.proofs.AlphaForm.{alphaParts, alpha-form, alpha-reads-back}
 use Rattle.codec.proofs.LongestTheorem.{empty-length}
 use Rattle.codec.proofs.WalkLaws.{stop-end, stop-none, behind, numbers-stop, numbers-number}
@@ -330,43 +323,3 @@ first-place text from =
           ∙ ap legalLength (sym (drop-drop (p - from) from text))
           ∙ first .none-before (p - from) (omega arith);
     }
-
--- The refusal in a walk.
-
--- of two refusals with 5 and a number, what is refused is refused with 5
-picked-five : (low high : Bool) (n : Number) {number p : ℕ} → pick low (refused 5 0) (pick high (refused 5 0) (done n)) ≡ refused number p
-    → number ≡ 5
-picked-five true high n h = cc
-picked-five false true n h = cc
-picked-five false false n h = let z : _≡_ {A = ℕ} 0 1 = cc in absurd (omega arith)
-
--- a number of at most 13 digits is refused with 5 alone
-scaled-five : (negative : Bool) (whole up down : ℕ) → whole < 10 ^ precision → {number p : ℕ}
-    → scaledNumber 0 negative whole up down ≡ refused number p → number ≡ 5
-unfolding shiftedNumber
-scaled-five negative whole up down fits {number} {p} h =
-    let zeros = leadingZeros precision whole in
-    let high = exponentLimit + (precision - 1) + up in
-    ⊎-elim
-    (λ (none : whole ≡ 0).
-    let answer = scaled-zero 0 negative whole up down none in
-    let z : _≡_ {A = ℕ} 0 1 = cc in
-    absurd (omega arith))
-    (λ (some : whole ≡ 0 → ⊥).
-    picked-five (ltb high (down + zeros)) (ltb (2 * exponentLimit) (high - (down + zeros)))
-    (record { negative = negative; mantissa = whole * 10 ^ zeros; exponent = high - (down + zeros) })
-    (sym (scaled-shifted 0 negative whole up down (omega arith) fits) ∙ h))
-    (zero-or-not whole)
-
--- Published: a text number that has no number is refused with 5.
-pub reading-five : (bytes : List ℕ) → (legalLength bytes ≡ 0 → ⊥) → {number p : ℕ} → readingIn bytes .number ≡ refused number p → number ≡ 5
-unfolding textValue
-reading-five bytes some h =
-    let t = partsIn bytes in
-    let u = t .numeral in
-    let legal = form-of-parts bytes (λ (z : length (allDigitsOf u) ≡ 0). some (legal-none bytes z)) .legal in
-    let few = legal .few in
-    let fits : valueOf (allDigitsOf u) < 10 ^ precision = omega (arith, value-below (allDigitsOf u) (legal .digits), pow10-mono few) in
-    scaled-five (isMinus (t .sign)) (valueOf (allDigitsOf u)) (powerValue (u .power))
-    (exponentLimit + length (fractionDigits (u .fraction))) fits
-    (sym (reading-number bytes some) ∙ h)

@@ -9,4 +9,5 @@ pub mod Unpacking
 pub mod Order
 pub mod Alpha
 pub mod Text
+pub mod KnownTexts
 pub mod Walking

@@ -1,6 +1,7 @@
--- Document 01, Alpha text, second paragraph: text numbers.
-use Prim.Native.Nat.{ℕ, zero, suc, _+_, _-_, _*_, _^_, _≤_}
+-- Document 01, Alpha text, second paragraph, and document 02, (i): text numbers.
+use Prim.Native.Nat.{ℕ, zero, suc, _+_, _-_, _*_, _^_, _≤_, _<_}
 use mathlib.Core.Path.{_≡_}
+use mathlib.Core.Logic.{_↔_}
 use mathlib.Core.List.{List, [], _∷_, _++_}
 use mathlib.Core.Bool.{Bool, true, false, _&&_}
 use lib.ListN.{length, take, drop}
@@ -11,9 +12,12 @@ use Rattle.decimal.specs.declared.number.Number.{Number}
 use Rattle.decimal.specs.Answer.{Answer, done, refused, _then_, pick}
 use Rattle.decimal.specs.Digits.{precision, Digits, valueOf}
 use Rattle.decimal.specs.Number.{exponentLimit, scaledNumber, numberMeaning}
+use Rattle.decimal.specs.Constructors.{IsScaled, ScaledOutside}
 use Rattle.decimal.specs.Image.{pointByte, signBytes, times, signOf}
 use Rattle.codec.specs.declared.text.Numeral.{Numeral}
 use Rattle.codec.specs.declared.text.Reading.{Reading}
+use Rattle.codec.specs.declared.text.TextAnswer.{TextAnswer}
+use Rattle.codec.specs.declared.text.TextAnswer.the-variants as gives
 use Rattle.codec.specs.Alpha.{blankByte, exponentByte, zeroByte, digitBytes}
 
 -- The form: blanks, an optional sign, a numeral, blanks. A numeral is 1 to 13 digits with at most one point before, among or after them,
@@ -197,9 +201,76 @@ readingMeaning r = record { used = r .used; number = numberMeaning (r .number) }
 abbrev pub legalLength : List ℕ → ℕ
 legalLength bytes = readingIn bytes .used
 
+-- Document 02, (i): "Reading a text number now takes the longest legal beginning and gives the number and how many bytes it used. ..
+-- Refusal 8 is then given when the legal length is 0".
+
+-- a number that was read, and how many bytes it used
+pub record TextNumber : Type 0 where
+  pub number : Number
+  pub used : ℕ
+
+-- a text number read: 8 where the legal length is 0, else the number of that beginning and its length, or 5 where e is outside its limits
+unfoldable pub readText : List ℕ → Answer TextNumber
+readText bytes =
+    pick (eqb (legalLength bytes) 0)
+    (refused 8 0)
+    (readingIn bytes .number then λ n. done (record { number = n; used = legalLength bytes }))
+
+-- each case of the code's answer
+abbrev pub textMeaning : TextAnswer → Answer TextNumber
+textMeaning (gives.Number n used) = done (record { number = n; used = used })
+textMeaning (gives.Refused r) = refused (r .number) (r .place)
+
+-- What is read, apart from how: by the grammar, and by magnitudes. (The proofs' ReadingTheorem: `readText` gives exactly this.)
+
+-- a number is that of a text: in normal form, with its magnitude, minus exactly where a minus is written and the digits are not all zero
+abbrev pub IsNumberOf : TextParts → Number → Type 0
+IsNumberOf t n =
+    IsScaled (isMinus (t .sign)) (valueOf (allDigitsOf (t .numeral))) (powerValue (t .numeral .power))
+    (exponentLimit + length (fractionDigits (t .numeral .fraction))) n
+
+-- e is outside its limits: the magnitude is not zero, and below 10^−99 or at least 10^100
+abbrev pub IsOutside : TextParts → Type 0
+IsOutside t =
+    ScaledOutside (valueOf (allDigitsOf (t .numeral))) (powerValue (t .numeral .power))
+    (exponentLimit + length (fractionDigits (t .numeral .fraction)))
+
+-- the longest beginning of bytes that has the form is so long, and has these parts
+pub record Beginning (bytes : List ℕ) (size : ℕ) (t : TextParts) : Type 0 where
+  pub some : 0 < size
+  pub longest : LongestForm bytes size
+  pub form : HasForm (take size bytes) t
+
+-- the answer that bytes are due
+pub data ReadsAs (bytes : List ℕ) : Answer TextNumber → Type 0 where
+  -- no beginning has the form
+  none : LongestForm bytes 0 → ReadsAs bytes (refused 8 0)
+  -- the longest that has it is a number
+  number : {size : ℕ} {t : TextParts} {n : Number} → Beginning bytes size t → IsNumberOf t n → ReadsAs bytes (done (record { number = n; used = size }))
+  -- the longest that has it is none, as its e is outside its limits
+  outside : {size : ℕ} {t : TextParts} → Beginning bytes size t → IsOutside t → ReadsAs bytes (refused 5 0)
+
 -- a whole text: 8 where it does not have the form, ahead of 5
 unfoldable pub convertText : List ℕ → Answer Number
 convertText bytes = pick (eqb (legalLength bytes) (length bytes)) (readingIn bytes .number) (refused 8 0)
+
+-- what converting a whole text is, by reading it (document 02, (i): "converting a whole text still gives 8, ahead of 5, if bytes are left over")
+pub record WholeText (bytes : List ℕ) : Type 0 where
+  -- a number exactly where reading gives it and uses all bytes
+  pub number : (n : Number) → (convertText bytes ≡ done n) ↔ (readText bytes ≡ done (record { number = n; used = length bytes }))
+  -- where all bytes are used, it is refused as reading is
+  pub refuses : (number place : ℕ) → legalLength bytes ≡ length bytes → (convertText bytes ≡ refused number place) ↔ (readText bytes ≡ refused number place)
+  -- 8 where bytes are left over, whatever reading gives
+  pub left-over : (legalLength bytes ≡ length bytes → ⊥) → convertText bytes ≡ refused 8 0
+
+-- texts are read as numbers, each using the whole of the text
+pub data ReadWhole : List (List ℕ) → List Number → Type 0 where
+  none : ReadWhole [] []
+  more :
+      {text : List ℕ} {n : Number} {texts : List (List ℕ)} {ns : List Number}
+      → readText text ≡ done (record { number = n; used = length text })
+      → ReadWhole texts ns
+      → ReadWhole (text ∷ texts) (n ∷ ns)
 
 -- texts read back: each by converting the whole of it
 unfoldable pub readTexts : List (List ℕ) → Answer (List Number)

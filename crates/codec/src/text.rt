@@ -1,4 +1,5 @@
-// Text numbers: the legal length of a text, and converting a whole text (document 01: Alpha text, second paragraph).
+// Text numbers: the legal length of a text, reading the number that a text begins with, and converting a whole text (document 01: Alpha
+// text, second paragraph; document 02, (i)).
 ghost use mathlib.Core.Path.{_≡_};
 ghost use Prim.Native.Nat.{_+_, _-_, _≤_};
 ghost use lib.ListN.{length, drop};
@@ -19,6 +20,8 @@ ghost use Rattle.codec.specs.Text.{
   NumeralFound,
   readingMeaning,
   readingIn,
+  textMeaning,
+  readText,
 };
 use decimal::EXPONENT_LIMIT;
 use decimal::Number;
@@ -37,6 +40,12 @@ const EXPONENT_DIGITS: usize = 2;
 pub struct Reading {
     pub used: usize,
     pub number: NumberAnswer,
+}
+
+// The number that a text begins with and the bytes used, or the refusal.
+pub enum TextAnswer {
+    Number(Number, usize),
+    Refused(Refusal),
 }
 
 // The answer for what is no text number.
@@ -278,13 +287,39 @@ pub fn legal_length(text: &[u8]) -> usize
     reading.used
 }
 
-// The number of a whole text: refused with 8 where it does not have the form, with 5 where its exponent is outside its limits.
+// The number of the longest beginning that has the form, and the bytes used; refused with 8 where there is none, with 5 where its exponent
+// is outside its limits.
+pub fn read_text_number(text: &[u8]) -> TextAnswer
+    ensures { λ r. ⌜ textMeaning r ≡ readText (now (text .entry)) ⌝ }
+{
+    let reading = read_text(text);
+    let number = reading.number;
+    match number {
+        NumberAnswer::Refused(refusal) => TextAnswer::Refused(refusal),
+        NumberAnswer::Number(number) => TextAnswer::Number(number, reading.used),
+    }
+}
+
+// The number of a whole text, where reading it uses all bytes; where bytes are left over, 8, ahead of 5.
 pub fn convert(text: &[u8]) -> NumberAnswer
     ensures { λ r. ⌜ numberMeaning r ≡ convertText (now (text .entry)) ⌝ }
 {
     let reading = read_text(text);
-    if reading.used == text.len() {
-        return reading.number;
+    let used = reading.used;
+    let number = reading.number;
+    match number {
+        NumberAnswer::Number(number) => {
+            if used != text.len() {
+                return NO_NUMBER;
+            }
+            NumberAnswer::Number(number)
+        }
+        // 5 stands only where no byte is left over.
+        NumberAnswer::Refused(refusal) => {
+            if used == text.len() {
+                return NumberAnswer::Refused(refusal);
+            }
+            NO_NUMBER
+        }
     }
-    NO_NUMBER
 }

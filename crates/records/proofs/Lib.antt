@@ -24,6 +24,7 @@ pub mod PrintBufferLaws
 pub mod PrintCallLaws
 pub mod MeasureLaws
 pub mod DemandTheorem
+pub mod WholeReadTheorem
 pub mod FileLaws
 pub mod FileTheorem
 pub mod ReplaceTheorem

@@ -14,3 +14,4 @@ pub mod Adding
 pub mod Listing
 pub mod Known
 pub mod Demand
+pub mod WholeRead

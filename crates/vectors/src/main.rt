@@ -1,4 +1,4 @@
-// Prints the rows of document 01's Known values and the worked examples of the manuals: source 000 (Wang 2200 A/B), and sources 001
+// Prints the rows of document 01's Known values, of document 02's examples, and the worked examples of the manuals: source 000 (Wang 2200 A/B), and sources 001
 // (Wang 3300) and 004 (Wang 2200VS) where their rules are document 01's. Beside a row stands its page and, where the manual prints
 // something else, the misprint or the difference of dialect. The up arrow of the manuals is the byte 5E, in rows ^.
 // A value that a manual does not state is taken from what it prints. What a row has, the functions image_row and so on say.
@@ -12,6 +12,8 @@ use crate::columns::image_row;
 use crate::columns::size_row;
 use crate::lines::fields_row;
 use crate::lines::line_row;
+use crate::texts::long_row;
+use crate::texts::read_row;
 use crate::texts::text_row;
 
 // Known values, those marked * too, and one row each of refusals 2 and 1.
@@ -123,6 +125,20 @@ fn later_constants() {
     text_row(b"                ");
 }
 
+// Document 02, (i): texts with a remark behind the number, and texts without a number.
+fn remarks() {
+    read_row(b"0012.5 torn");
+    read_row(b"12E99 torn");
+    read_row(b"12E99");
+    read_row(b"torn");
+    read_row(b"");
+    read_row(b"   ");
+    read_row(b"1 2");
+    read_row(b"-");
+    read_row(b"12345678901234");
+    long_row();
+}
+
 // Known values printed, both marked *.
 fn known_lines() {
     line_row(b"#,###.#", b"34");
@@ -223,6 +239,7 @@ fn main() {
     known_texts();
     constants();
     later_constants();
+    remarks();
     known_lines();
     printed_lines();
     earlier_lines();
