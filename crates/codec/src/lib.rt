@@ -26,6 +26,7 @@ pub use lists::Images;
 pub use lists::Numbers;
 pub use packing::pack;
 pub use packing::pack_under;
+pub use text::NO_NUMBER;
 pub use text::NOT_TEXT;
 pub use text::Reading;
 pub use text::TextAnswer;

@@ -49,7 +49,7 @@ pub enum TextAnswer {
 }
 
 // The answer for what is no text number.
-const NO_NUMBER: NumberAnswer = NumberAnswer::Refused(Refusal {
+pub const NO_NUMBER: NumberAnswer = NumberAnswer::Refused(Refusal {
     number: NOT_TEXT,
     place: 0,
 });

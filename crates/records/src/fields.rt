@@ -22,7 +22,7 @@ use crate::marks::Marks;
 use crate::marks::is_dropped;
 use crate::marks::read_byte;
 use crate::writing::write_bytes;
-use codec::NOT_TEXT;
+use codec::NO_NUMBER;
 use codec::WriteAnswer;
 use codec::convert;
 use codec::write_alpha_under;
@@ -31,7 +31,6 @@ use decimal::Image;
 use decimal::Number;
 use decimal::NumberAnswer;
 use decimal::PRECISION;
-use decimal::Refusal;
 use decimal::Sign;
 use decimal::Truncation;
 use decimal::truncate;
@@ -294,10 +293,7 @@ fn read_marked(field: &[u8], marks: Marks) -> NumberAnswer
         let byte = field[j];
         if !is_dropped(marks, byte) {
             if TEXT_ROOM <= kept {
-                return NumberAnswer::Refused(Refusal {
-                    number: NOT_TEXT,
-                    place: 0,
-                });
+                return NO_NUMBER;
             }
             text[kept] = read_byte(marks, byte);
             kept += 1;
