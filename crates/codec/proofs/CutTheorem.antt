@@ -5,7 +5,7 @@ use mathlib.Core.Path.{_≡_, refl, ap, sym, subst, _∙_}
 use mathlib.Core.Logic.{_↔_, ⊎-elim}
 use mathlib.Core.List.{List, [], _∷_}
 use native.Mathlib.Omega.{arith}
-use lib.ListN.{length, take, drop, length-drop, drop-of-length-le}
+use lib.ListN.{length, drop, length-drop, drop-of-length-le}
 use lib.Seq.{drop-drop}
 use Rattle.decimal.specs.declared.number.Number.{Number}
 use Rattle.decimal.specs.Answer.{Answer, done, refused}
@@ -14,29 +14,31 @@ use Rattle.decimal.proofs.DigitLaws.{le-or-lt}
 use Rattle.codec.specs.declared.walking.WalkAnswer.{WalkAnswer}
 use Rattle.codec.specs.declared.walking.WalkAnswer.the-variants as gives
 use Rattle.codec.specs.Lists.{maxColumns}
-use Rattle.codec.specs.Text.{LongestForm, readingIn, legalLength, convertText}
+use Rattle.codec.specs.Text.{LongestForm, readingIn, legalLength}
 use Rattle.codec.specs.Walking.{Walk, stopBefore, stopped, numbersIn, walking, walkMeaning, Foremost, Cut}
-use Rattle.codec.proofs.LongestTheorem.{longest, longest-unique, empty-length, beginning-converts}
+use Rattle.codec.proofs.LongestTheorem.{longest, longest-unique, empty-length}
+use Rattle.codec.proofs.ReadingTheorem.{beginning-size, beginning-value, some-beginning}
 use Rattle.codec.proofs.WalkLaws.{stop-end, stop-none, stop-many, behind, numbers-stop, numbers-full, numbers-number, numbers-refused}
 
 -- The longest beginning.
 
 -- where a text number begins, it is foremost
 foremost : (bytes : List ℕ) → (legalLength bytes ≡ 0 → ⊥) → {a : Answer Number} → readingIn bytes .number ≡ a → Foremost bytes (legalLength bytes) a
-foremost bytes some e = record { some = omega arith; longest = longest bytes; converts = beginning-converts bytes ∙ e }
+foremost bytes some e =
+    let b = some-beginning bytes some in
+    record { parts = b .0; beginning = b .1; value = sym (beginning-value bytes (b .1)) ∙ e }
 
 -- and the one that is foremost is read: its length
 foremost-size : {bytes : List ℕ} {size : ℕ} {a : Answer Number} → Foremost bytes size a → legalLength bytes ≡ size
-foremost-size {bytes} f = longest-unique (longest bytes) (f .longest)
+foremost-size {bytes} f = sym (beginning-size bytes (f .beginning))
 
 -- so one begins
 foremost-some : {bytes : List ℕ} {size : ℕ} {a : Answer Number} → Foremost bytes size a → legalLength bytes ≡ 0 → ⊥
-foremost-some f none = omega (arith, foremost-size f, f .some)
+foremost-some f none = omega (arith, foremost-size f, f .beginning .some)
 
 -- and its number
 foremost-number : {bytes : List ℕ} {size : ℕ} {a : Answer Number} → Foremost bytes size a → readingIn bytes .number ≡ a
-foremost-number {bytes} f =
-    sym (beginning-converts bytes) ∙ ap (λ (n : ℕ). convertText (take n bytes)) (foremost-size f) ∙ f .converts
+foremost-number {bytes} f = beginning-value bytes (f .beginning) ∙ f .value
 
 -- What walking gives.
 

@@ -71,11 +71,11 @@ module _ {bytes : List ℕ} {t : TextParts} (form : HasForm bytes t) where
 
 module _ (bytes : List ℕ) where
   -- the longest beginning is read: its length
-  beginning-size : {size : ℕ} {t : TextParts} → Beginning bytes size t → size ≡ legalLength bytes
+  pub beginning-size : {size : ℕ} {t : TextParts} → Beginning bytes size t → size ≡ legalLength bytes
   beginning-size b = longest-unique (b .longest) (longest bytes)
 
   -- and its value
-  beginning-value : {size : ℕ} {t : TextParts} → Beginning bytes size t → readingIn bytes .number ≡ textValue t
+  pub beginning-value : {size : ℕ} {t : TextParts} → Beginning bytes size t → readingIn bytes .number ≡ textValue t
   beginning-value b =
       sym (beginning-converts bytes)
       ∙ ap (λ (n : ℕ). convertText (take n bytes)) (sym (beginning-size b))
@@ -96,7 +96,7 @@ module _ (bytes : List ℕ) where
       (value-one-of (b .form))
 
   -- there is one, unless the legal length is 0
-  some-beginning : (legalLength bytes ≡ 0 → ⊥) → (t : TextParts) × Beginning bytes (legalLength bytes) t
+  pub some-beginning : (legalLength bytes ≡ 0 → ⊥) → (t : TextParts) × Beginning bytes (legalLength bytes) t
   some-beginning some =
       let form = longest bytes .has-form some in
       (form .0, record { some = omega arith; longest = longest bytes; form = form .1 })

@@ -2,7 +2,7 @@
 use Prim.Native.Nat.{ℕ, zero, suc, _+_, _<_, _≤_}
 use mathlib.Core.Path.{_≡_}
 use mathlib.Core.List.{List, [], _∷_, _++_}
-use lib.ListN.{length, take, drop}
+use lib.ListN.{length, drop}
 use lib.Dec.{eqb}
 use denote.Ref.{now}
 use Rattle.decimal.specs.declared.number.Number.{Number}
@@ -14,7 +14,7 @@ use Rattle.codec.specs.declared.walking.WalkAnswer.the-variants as gives
 use Rattle.codec.specs.declared.walking.Walked.{Walked}
 use Rattle.codec.specs.Lists.{filled, maxColumns}
 use Rattle.codec.specs.Alpha.{parted}
-use Rattle.codec.specs.Text.{LongestForm, readingIn, legalLength, convertText, readTexts}
+use Rattle.codec.specs.Text.{TextParts, LongestForm, textValue, readingIn, legalLength, Beginning, readTexts}
 
 -- how many bytes stand before the first place where a text number begins: all of them where there is none
 unfoldable pub bytesBefore : List ℕ → ℕ
@@ -75,11 +75,11 @@ walkMeaning gives.NoNumber = refused 8 0
 walkMeaning (gives.Refused r) = refused (r .number) (r .place)
 walkMeaning gives.TooMany = refused 10 0
 
--- the longest beginning of bytes that has the form of a text number is so long, and converts so
+-- the longest beginning of bytes that has the form of a text number is so long, and its number is so
 pub record Foremost (bytes : List ℕ) (size : ℕ) (number : Answer Number) : Type 0 where
-  pub some : 0 < size
-  pub longest : LongestForm bytes size
-  pub converts : convertText (take size bytes) ≡ number
+  pub parts : TextParts
+  pub beginning : Beginning bytes size parts
+  pub value : textValue parts ≡ number
 
 -- from a number's index and a place on: the numbers, the place where there is none more, and why
 pub data Cut (text : List ℕ) : ℕ → ℕ → List Number → ℕ → Answer (Unit {0}) → Type 0 where
