@@ -2,7 +2,7 @@
 //! A line is words parted by one blank: a name, then bytes in hexadecimal, a dot for none.
 #![allow(dead_code)]
 use crate::model;
-use model::{Element, Image, Number, Refusal, Stop};
+use model::{Element, Image, Number, Refusal, Remainder, Stop};
 
 /// The most bytes of a line.
 const LONGEST_CALL: usize = 16_384;
@@ -69,6 +69,18 @@ fn numbers_words(numbers: &[Number]) -> String {
     format!("{} {}", numbers.len(), values.collect::<Vec<_>>().join(" "))
 }
 
+/// Writes a remainder.
+fn remainder_words(remainder: &Remainder) -> String {
+    format!("{}e{}", remainder.r, remainder.power)
+}
+
+/// Writes a list of remainders: its count, and 16 values, those of zero behind the last.
+fn remainders_words(remainders: &[Remainder]) -> String {
+    let zero = Remainder { r: 0, power: 0 };
+    let values = (0..model::MOST_COLUMNS).map(|column| remainder_words(remainders.get(column).unwrap_or(&zero)));
+    format!("{} {}", remainders.len(), values.collect::<Vec<_>>().join(" "))
+}
+
 /// Writes a refusal.
 fn refusal_words(refusal: Refusal) -> String {
     format!("refused {} {}", refusal.number, refusal.place)
@@ -84,6 +96,13 @@ fn written(result: Result<Vec<u8>, Refusal>, buffer: &[u8]) -> String {
     let found = result.clone().unwrap_or_default();
     let after = [&found, &buffer[found.len()..]].concat();
     format!("{} buffer {}", answer(result, |found| hexadecimal(&found)), hexadecimal(&after))
+}
+
+/// Answers the call that packs and gives remainders.
+fn cutoff(buffer: &[u8], contents: &[u8], items: &[u8]) -> String {
+    let result = model::pack_with_remainders(contents, &numbers(items), buffer.len());
+    let remainders = result.clone().map(|(_, remainders)| remainders).unwrap_or_default();
+    format!("{} {}", written(result.map(|(body, _)| body), buffer), remainders_words(&remainders))
 }
 
 /// Answers the print call.
@@ -161,16 +180,17 @@ fn image(bytes: &[u8], place: &[u8]) -> String {
     })
 }
 
-/// Answers the truncation calls under an image: the number, its parts with the digits as half bytes, and whether it packs.
+/// Answers the truncation calls under an image: the number, its parts with the digits as half bytes, whether it packs, and what is cut off.
 fn truncation(image: &Image, number: &Number, place: usize) -> String {
     let checked = if number.is_normal() { model::truncate(image, number, place) } else { model::refuse(3, place) };
     let parts = checked.clone().map_or("+0e0".to_string(), |parts| {
         let halves = parts.digits.iter().fold(0u64, |halves, &digit| halves * 16 + u64::from(digit));
         format!("{}{halves}e{}", if parts.negative { '-' } else { '+' }, parts.x)
     });
+    let cut = answer(checked.clone(), |parts| remainder_words(&model::remainder(image, number, &parts)));
     let found = answer(checked, |parts| model::number_of(image, &parts).map_or("?".to_string(), |found| number_words(&found)));
     let packs = model::pack_column(image, number, place).map_or_else(refusal_words, |_| "ok".to_string());
-    format!("{found} {parts} packing {packs}")
+    format!("{found} {parts} packing {packs} cut off {cut}")
 }
 
 /// Answers the truncation calls.
@@ -200,6 +220,7 @@ fn call(line: &str) -> Option<String> {
         "image" => image(&a, &b),
         "truncate" => truncate(&a, &b, &c),
         "pack" => written(model::pack(&b, &numbers(&c), a.len()), &a),
+        "cutoff" => cutoff(&a, &b, &c),
         "unpack" => unpack(&a, &b),
         "alpha" => written(model::alpha(&b, &number(&c), a.len()), &a),
         "legal" => format!("ok {}", model::legal_length(&a)),

@@ -82,6 +82,15 @@ fn print_answer(line: &str, elements: &str, texts: &str, room: &str) -> Option<S
     Some(answer(result, |found| format!("{} {}", hexadecimal(&found.bytes), found.spilled)))
 }
 
+/// Makes a call that packs and gives remainders.
+fn remainders_answer(contents: &str, numbers: &str, room: &str) -> Option<String> {
+    let result = model::pack_with_remainders(&bytes(contents)?, &list(numbers, number)?, size(room)?);
+    Some(answer(result, |(body, remainders)| {
+        let words = remainders.iter().map(|remainder| format!("{}e{}", remainder.r, remainder.power));
+        format!("{} {}", hexadecimal(&body), words.collect::<Vec<_>>().join(","))
+    }))
+}
+
 /// Makes a call that adds a record.
 fn add_answer(buffer: &str, used: &str, numbers: &str) -> Option<String> {
     let result = model::add(&bytes(buffer)?, size(used)?, &list(numbers, number)?);
@@ -100,6 +109,7 @@ fn make_call(words: &[&str]) -> Option<String> {
         ["pack", contents, numbers, room] => {
             bytes_answer(model::pack(&bytes(contents)?, &list(numbers, number)?, size(room)?))
         }
+        ["remainders", contents, numbers, room] => remainders_answer(contents, numbers, room)?,
         ["unpack", contents, body] => numbers_answer(model::unpack(&bytes(contents)?, &bytes(body)?)),
         ["alpha", image, value, room] => {
             bytes_answer(model::alpha(&bytes(image)?, &number(value)?, size(room)?))

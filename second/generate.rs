@@ -295,7 +295,7 @@ fn words(random: &mut Random, name: &str) -> Vec<Vec<u8>> {
             let (image, number) = image_and_number(random);
             vec![image, number, size(random.below(16))]
         }
-        "pack" => pack(random),
+        "pack" | "cutoff" => pack(random),
         "unpack" => unpack(random),
         "alpha" => {
             let (image, number) = image_and_number(random);
@@ -324,9 +324,9 @@ fn words(random: &mut Random, name: &str) -> Vec<Vec<u8>> {
 }
 
 /// The names of the calls; those that have most to get wrong stand there more than once.
-const NAMES: [&str; 25] = [
-    "compare", "image", "truncate", "pack", "pack", "unpack", "unpack", "alpha", "legal", "read", "convert", "place", "numbers", "scan", "print",
-    "print", "print", "forecast", "field", "contents", "add", "add", "show", "list", "report",
+const NAMES: [&str; 27] = [
+    "compare", "image", "truncate", "pack", "pack", "cutoff", "cutoff", "unpack", "unpack", "alpha", "legal", "read", "convert", "place",
+    "numbers", "scan", "print", "print", "print", "forecast", "field", "contents", "add", "add", "show", "list", "report",
 ];
 
 /// Damages a line so that it is no call, for most lines.

@@ -35,6 +35,13 @@ pub struct Truncated {
     pub x: i128,
 }
 
+/// What truncation cut off a number: r * 10^power.
+#[derive(Clone, Copy, Debug, PartialEq, Eq)]
+pub struct Remainder {
+    pub r: u128,
+    pub power: i128,
+}
+
 /// An element of a print call. A text is a part of the lent bytes.
 #[derive(Clone, Copy, Debug, PartialEq, Eq)]
 pub enum Element {
@@ -247,6 +254,17 @@ pub fn number_of(image: &Image, truncated: &Truncated) -> Option<Number> {
     scaled(truncated.negative, whole_of(&truncated.digits), scale)
 }
 
+/// Gives what a truncation cut off its number: truncated magnitude plus r * 10^(e - 12) is the magnitude.
+pub fn remainder(image: &Image, number: &Number, truncated: &Truncated) -> Remainder {
+    let power = if number.m == 0 { 0 } else { number.e - 12 };
+    // The truncated magnitude k * 10^(x - f), counted in units of 10^power.
+    let kept = match whole_of(&truncated.digits) {
+        0 => 0,
+        k => k * 10u128.pow((truncated.x - image.fraction as i128 - power) as u32),
+    };
+    Remainder { r: number.m - kept, power }
+}
+
 // ---- Contents ----
 
 /// Reads one column from the beginning of the bytes: its image, and the bytes behind it.
@@ -339,6 +357,14 @@ pub fn pack_list(images: &[Image], numbers: &[Number]) -> Result<Vec<u8>, Refusa
 pub fn pack(contents: &[u8], numbers: &[Number], room: usize) -> Result<Vec<u8>, Refusal> {
     let images = read_contents_alone(contents)?;
     fit(pack_list(&images, numbers)?, room)
+}
+
+/// The call that packs a list under a contents into a buffer, and gives what truncation cut off each number.
+pub fn pack_with_remainders(contents: &[u8], numbers: &[Number], room: usize) -> Result<(Vec<u8>, Vec<Remainder>), Refusal> {
+    let body = pack(contents, numbers, room)?;
+    let images = read_contents_alone(contents)?;
+    let cut = |(image, number): (&Image, &Number)| Ok(remainder(image, number, &truncate(image, number, 0)?));
+    Ok((body, images.iter().zip(numbers).map(cut).collect::<Result<_, _>>()?))
 }
 
 /// Reads the sign, the digits and x out of a column whose halves are all at most 9.

@@ -55,11 +55,25 @@ fn body_words(image: &str, number: &Number) -> String {
     }
 }
 
-/// Gives the row of an image and the number whole * 10^scale, the sign being in the whole.
+/// Gives the number whole * 10^scale, the sign being in the whole.
+fn number_of(whole: i64, scale: i128) -> Number {
+    model::scaled(whole < 0, whole.unsigned_abs().into(), scale).unwrap_or(Number::ZERO)
+}
+
+/// Gives the row of an image and a number: its alpha text and its body.
 fn image_row(image: &str, whole: i64, scale: i128) -> String {
-    let number = model::scaled(whole < 0, whole.unsigned_abs().into(), scale).unwrap_or(Number::ZERO);
+    let number = number_of(whole, scale);
     let (alpha, body) = (alpha_words(image, &number), body_words(image, &number));
     format!("{image} {whole:+}E{scale:+}: {alpha}; body {body}\n")
+}
+
+/// Gives the row of an image and a number: its body, and what is cut off it.
+fn cut_row(image: &str, whole: i64, scale: i128) -> String {
+    let answer = match model::pack_with_remainders(&one_column(image), &[number_of(whole, scale)], ROOM) {
+        Ok((body, cut)) => format!("body {}; cut off {} e {:+}", hexadecimal_words(&body), cut[0].r, cut[0].power),
+        Err(refusal) => format!("{}; cut off none", refusal_words(refusal)),
+    };
+    format!("{image} {whole:+}E{scale:+}: {answer}\n")
 }
 
 /// Gives the row of an image's packed size.
@@ -208,6 +222,28 @@ fn read_rows() -> String {
     short + "4095 blanks and 7: " + &read_words(&(" ".repeat(4_095) + "7"))
 }
 
+/// Gives the rows of what truncation cuts off: document 02, (ii).
+fn cut_rows() -> String {
+    let rows = [
+        ("##", 1, -5),
+        ("###.###", 12195, -3),
+        ("###", 12195, -3),
+        ("#^^^^", 12195, -3),
+        ("#############^^^^", 12195, 9),
+        ("##", 1, -99),
+        ("+#^^^^", 12195, -103),
+        ("#^^^^", 99999, 95),
+        ("+#", -3, -1),
+        ("#", -3, -1),
+        ("##", 0, 0),
+        ("+#.#^^^^", 0, 0),
+        ("##", 1, 2),
+        ("#.#^^^^", 5, -2),
+        ("##^^^^", 1, -99),
+    ];
+    rows.iter().map(|&(image, whole, scale)| cut_row(image, whole, scale)).collect()
+}
+
 /// Gives the rows of printed lines: known values, then sources 000, 001 and 004.
 fn line_rows() -> String {
     let rows = [
@@ -260,6 +296,6 @@ fn fields_rows() -> String {
 
 /// Prints all rows.
 fn main() -> std::io::Result<()> {
-    let rows = [image_rows(), size_rows(), body_rows(), text_rows(), read_rows(), line_rows(), fields_rows()];
+    let rows = [image_rows(), size_rows(), body_rows(), text_rows(), read_rows(), cut_rows(), line_rows(), fields_rows()];
     std::io::stdout().write_all(rows.concat().as_bytes())
 }

@@ -12,6 +12,8 @@ use crate::shown::print_numbers;
 use crate::shown::print_parts;
 use crate::shown::print_raw;
 use crate::shown::print_refusal;
+use crate::shown::print_remainder;
+use crate::shown::print_remainders;
 use crate::shown::print_written;
 use crate::words::front;
 use crate::words::whole;
@@ -22,6 +24,7 @@ use decimal::ImageAnswer;
 use decimal::NumberAnswer;
 use decimal::Order;
 use decimal::OrderAnswer;
+use decimal::RemainderAnswer;
 use decimal::Sign;
 use records::AddAnswer;
 use records::ForecastAnswer;
@@ -32,6 +35,15 @@ use records::ShowAnswer;
 pub(crate) fn pack(buffer: &mut [u8], contents: &[u8], numbers: &[u8]) {
     let answer = codec::pack(contents, numbers_in(numbers), &mut *buffer);
     print_written(answer, &*buffer);
+}
+
+// cutoff BUFFER CONTENTS NUMBERS: as pack, and what truncation cut off each number.
+pub(crate) fn cutoff(buffer: &mut [u8], contents: &[u8], numbers: &[u8]) {
+    let packed = codec::pack_with_remainders(contents, numbers_in(numbers), &mut *buffer);
+    let answer = packed.answer;
+    print_written(answer, &*buffer);
+    let remainders = packed.remainders;
+    print_remainders(remainders);
 }
 
 // unpack CONTENTS BODY
@@ -197,7 +209,7 @@ pub(crate) fn image(bytes: &[u8], place: &[u8]) {
     }
 }
 
-// truncate IMAGE NUMBER PLACE: the number's truncation and its parts, and whether the number packs.
+// truncate IMAGE NUMBER PLACE: the number's truncation and its parts, whether the number packs, and what is cut off.
 pub(crate) fn truncate(bytes: &[u8], number: &[u8], place: &[u8]) {
     let at = whole(place);
     let value = number_in(number);
@@ -209,6 +221,14 @@ pub(crate) fn truncate(bytes: &[u8], number: &[u8], place: &[u8]) {
             print_parts(parts.negative, parts.halves, parts.x);
             print_raw(b" packing ");
             print_check(decimal::fit_packed(image, value, at));
+            print_raw(b" cut off ");
+            match decimal::remainder_of(image, value, at) {
+                RemainderAnswer::Refused(refusal) => print_refusal(refusal),
+                RemainderAnswer::Remainder(remainder) => {
+                    print_raw(b"ok");
+                    print_remainder(remainder);
+                }
+            }
         }
     }
 }

@@ -22,14 +22,15 @@ const INPUT: usize = 1 << 18;
 // The most bytes of a word in hexadecimal.
 const SPACE: usize = 8192;
 
-// Makes a call. Its name stands as the whole number that its bytes are: compare, image, truncate; pack, unpack, alpha, legal, read, convert,
-// place, numbers; scan, print, forecast, field; contents, add, show, list, report.
+// Makes a call. Its name stands as the whole number that its bytes are: compare, image, truncate; pack, cutoff, unpack, alpha, legal, read,
+// convert, place, numbers; scan, print, forecast, field; contents, add, show, list, report.
 fn make(name: usize, first: &mut [u8], second: &[u8], third: &[u8], fourth: &[u8]) {
     match name {
         0x636f6d70617265 => layers::compare(&*first, second),
         0x696d616765 => layers::image(&*first, second),
         0x7472756e63617465 => layers::truncate(&*first, second, third),
         0x7061636b => layers::pack(first, second, third),
+        0x6375746f6666 => layers::cutoff(first, second, third),
         0x756e7061636b => layers::unpack(&*first, second),
         0x616c706861 => layers::alpha(first, second, third),
         0x6c6567616c => layers::legal(&*first),

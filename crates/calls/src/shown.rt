@@ -1,12 +1,15 @@
 // Small writers to standard output.
 use crate::words::front;
 use codec::Numbers;
+use codec::Remainders;
 use codec::WriteAnswer;
 use decimal::CheckAnswer;
 use decimal::EXPONENT_LIMIT;
 use decimal::Number;
 use decimal::NumberAnswer;
 use decimal::Refusal;
+use decimal::Remainder;
+use decimal::SCALE;
 use libc::STDOUT_FILENO;
 
 // Writes bytes as they are.
@@ -45,6 +48,18 @@ pub(crate) fn print_refusal(refusal: Refusal) {
     print_count(refusal.place);
 }
 
+// Writes a whole number, e and a power, which is held with some excess added.
+fn print_power(whole: u64, held: usize, excess: usize) {
+    io::print_decimal(STDOUT_FILENO, whole);
+    if held < excess {
+        print_raw(b"e-");
+        io::print_decimal(STDOUT_FILENO, (excess - held) as u64);
+    } else {
+        print_raw(b"e");
+        io::print_decimal(STDOUT_FILENO, (held - excess) as u64);
+    }
+}
+
 // Writes a blank, a sign, a whole number, e and the exponent, which is held with EXPONENT_LIMIT added.
 pub(crate) fn print_parts(negative: bool, whole: u64, held: usize) {
     if negative {
@@ -52,14 +67,13 @@ pub(crate) fn print_parts(negative: bool, whole: u64, held: usize) {
     } else {
         print_raw(b" +");
     }
-    io::print_decimal(STDOUT_FILENO, whole);
-    if held < EXPONENT_LIMIT {
-        print_raw(b"e-");
-        io::print_decimal(STDOUT_FILENO, (EXPONENT_LIMIT - held) as u64);
-    } else {
-        print_raw(b"e");
-        io::print_decimal(STDOUT_FILENO, (held - EXPONENT_LIMIT) as u64);
-    }
+    print_power(whole, held, EXPONENT_LIMIT);
+}
+
+// Writes a blank and a remainder.
+pub(crate) fn print_remainder(remainder: Remainder) {
+    print_raw(b" ");
+    print_power(remainder.whole, remainder.power, SCALE);
 }
 
 // Writes a number's answer.
@@ -89,6 +103,17 @@ pub(crate) fn print_numbers(numbers: Numbers) {
     while i < codec::COLUMNS {
         let number = values[i];
         print_parts(number.negative, number.mantissa, number.exponent);
+        i += 1;
+    }
+}
+
+// Writes a list of remainders: its count, and all values, those past the count too.
+pub(crate) fn print_remainders(remainders: Remainders) {
+    print_count(remainders.count);
+    let values = remainders.values;
+    let mut i = 0;
+    while i < codec::COLUMNS {
+        print_remainder(values[i]);
         i += 1;
     }
 }

@@ -10,6 +10,7 @@ pub mod RunLaws
 pub mod ColumnLaws
 pub mod PackLaws
 pub mod BodyLaws
+pub mod RemainderLaws
 pub mod RoomTheorem
 pub mod UnpackLaws
 pub mod OrderTheorem
@@ -20,6 +21,7 @@ pub mod LineLaws
 pub mod ContentsTheorem
 pub mod FrontLaws
 pub mod PacksTheorem
+pub mod RemainderTheorem
 pub mod PartLaws
 pub mod TextLaws
 pub mod FormLaws

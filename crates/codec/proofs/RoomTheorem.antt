@@ -16,6 +16,7 @@ use Rattle.decimal.specs.Number.{exponentLimit, normal, checkNumber}
 use Rattle.decimal.specs.Image.{hashes, checkImage, readImage, isImage, runState, scannedImage}
 use Rattle.decimal.specs.Image.{Start}
 use Rattle.decimal.specs.Truncation.{truncatedTo, truncation, packedTruncation, packable, limited, exceeds, exponentOutside, isSigned}
+use Rattle.decimal.proofs.AnswerLaws.{never}
 use Rattle.decimal.proofs.DigitLaws.{le-or-lt}
 use Rattle.codec.specs.Lists.{maxColumns}
 use Rattle.codec.specs.Contents.{readColumn, columnLength, readColumns, readContents, readAlone}
@@ -131,6 +132,18 @@ module _ (contents : List ℕ) (ns : List Number) where
     pub none-refused : {number place : ℕ} → bodyOf contents ns ≡ refused number place → packing contents ns room ≡ refused number place
     unfolding packing _then_
     none-refused h = rw h
+
+    -- what packing gives is the body
+    pub packing-body : {body : List ℕ} → packing contents ns room ≡ done body → bodyOf contents ns ≡ done body
+    packing-body {body} h = go (bodyOf contents ns) refl
+      where
+        go : (a : Answer (List ℕ)) → bodyOf contents ns ≡ a → bodyOf contents ns ≡ done body
+        go (done b) e =
+            ⊎-elim
+            (λ le. e ∙ sym (within-done e le) ∙ h)
+            (λ lt. never (longer-refused e lt) h)
+            (le-or-lt (length b) room)
+        go (refused number at-place) e = never (none-refused e) h
 
     -- and nothing else is refused with 6
     pub pack-refused-six :

@@ -191,7 +191,7 @@ unpacking-same contents body {table} h = rw (h, unpack-under-checked (table .ima
 
 module _ (contents : List ℕ) (r : Contents) (told : r ≡ contentsOf (readAlone contents)) (reads : r .answer ≡ checks.Fine) where
   -- the code's images of a contents that was read are its own
-  lent-images : (ok : ReadOk contents r) → imageList (r .images) ≡ ok .table .images
+  pub lent-images : (ok : ReadOk contents r) → imageList (r .images) ≡ ok .table .images
   lent-images ok = told-images (ok .table) (alone-sound contents (ok .reads) .high) (told ∙ ap contentsOf (ok .reads))
 
   -- so the code packs under the contents

@@ -6,6 +6,7 @@ pub mod Halves
 pub mod Packing
 pub mod Worths
 pub mod Unpacking
+pub mod Remainders
 pub mod Order
 pub mod Alpha
 pub mod Text

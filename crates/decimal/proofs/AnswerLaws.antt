@@ -1,7 +1,7 @@
 -- Laws of answers one after the other. Assumes nothing.
 use Prim.Native.Nat.{ℕ}
 use native.Mathlib.Omega.{arith}
-use mathlib.Core.Path.{_≡_, refl, ap, sym, _∙_}
+use mathlib.Core.Path.{_≡_, refl, ap, ap₂, sym, _∙_}
 use Rattle.decimal.specs.Answer.{Answer, done, refused, _then_}
 
 -- a refused answer is not done
@@ -51,6 +51,17 @@ then-both f p q = then-next f p ∙ q
 pub then-refused : {A B : Type 0} (f : A → Answer B) {number place : ℕ} {r : Answer A} → r ≡ refused number place → (r then f) ≡ refused number place
 unfolding _then_
 then-refused f {number} {place} e = ap (λ (x : Answer _). x then f) e
+
+-- and it is the only refusal where nothing behind it refuses
+pub refused-first :
+    {A B : Type 0} (a : Answer A) (f : A → Answer B) {number place : ℕ}
+    → ((x : A) → a ≡ done x → (b : B) × ((a then f) ≡ done b))
+    → (a then f) ≡ refused number place
+    → a ≡ refused number place
+unfolding _then_
+refused-first (done x) f behind h = never h (behind x refl .1)
+refused-first (refused x y) f {number} {place} behind h =
+    let same-number : x ≡ number = cc in let same-place : y ≡ place = cc in ap₂ refused same-number same-place
 
 -- a second step that gives what it is given changes nothing
 pub then-same : {A : Type 0} (a : Answer A) → (a then λ (x : A). done x) ≡ a

@@ -18,3 +18,5 @@ pub mod ImageLaws
 pub mod StepLaws
 pub mod TruncationLaws
 pub mod KeptLaws
+pub mod RemainderLaws
+pub mod RemainderTheorem

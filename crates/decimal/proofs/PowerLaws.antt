@@ -1,14 +1,14 @@
 -- Powers of ten.
 -- Assumes nothing.
 use mathlib.Core.Path.{_≡_, ap, sym, _∙_}
-use Prim.Native.Nat.{ℕ, suc, _+_, _*_, _^_, _<_, _≤_}
+use Prim.Native.Nat.{ℕ, suc, _+_, _-_, _*_, _^_, _<_, _≤_}
 use native.Mathlib.Nat.{one-le-pow, pow-succ', pow-le-pow-right, mul-left-comm, le-mul-of-pos-right}
 use native.Mathlib.Omega.{arith}
 use lib.Dec.{ltb}
 use lib.Pow.{pow-add}
 use borrow.Author.Tests.{lt-ltb, le-ltb}
 use Rattle.decimal.specs.Answer.{pick}
-use Rattle.decimal.specs.Digits.{powerOfTen}
+use Rattle.decimal.specs.Digits.{precision, powerOfTen}
 
 -- a power of ten is not zero
 pub pow10-pos : (n : ℕ) → 0 < 10 ^ n
@@ -38,6 +38,10 @@ times-power k n = le-mul-of-pos-right k (pow10-pos n)
 pub power-small : (e : ℕ) → e < 20 → powerOfTen e ≡ 10 ^ e
 unfolding powerOfTen
 power-small e h = rw (lt-ltb e 20 h)
+
+-- so is that of the count of digits that are left of a mantissa's
+pub power-left : (count : ℕ) {r : ℕ} → r ≡ powerOfTen (precision - count) → r ≡ 10 ^ (precision - count)
+power-left count e = e ∙ power-small (precision - count) (omega arith)
 
 -- that of a larger one is 0
 pub power-large : (e : ℕ) → 20 ≤ e → powerOfTen e ≡ 0

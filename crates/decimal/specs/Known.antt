@@ -26,10 +26,10 @@ packedUnder bytes negative whole up down =
     readImage 0 bytes then λ im. (scaledNumber 0 negative whole up down then λ n. packedTruncation 0 im n)
 
 -- the parts of the images
-pub hashes# : ℕ → List ℕ
+unfoldable pub hashes# : ℕ → List ℕ
 hashes# n = times n hashByte
 
-pub ups↑ : List ℕ
+unfoldable pub ups↑ : List ℕ
 ups↑ = times 4 upByte
 
 -- the rows, one field each

@@ -5,5 +5,7 @@ pub mod Constructors
 pub mod Comparison
 pub mod Image
 pub mod Truncation
+pub mod Remainder
 pub mod Known
 pub mod KnownNumbers
+pub mod KnownRemainders

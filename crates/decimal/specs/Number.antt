@@ -37,9 +37,13 @@ magnitude n = n .mantissa * 10 ^ n .exponent
 abbrev pub exponentOf : Number → ℤ
 exponentOf n = pos (n .exponent) -ℤ pos exponentLimit
 
+-- 99 + 12: every magnitude is a whole multiple of 10^−scale
+abbrev pub scale : ℕ
+scale = exponentLimit + (precision - 1)
+
 -- one, in those units
 abbrev pub unit : ℕ
-unit = 10 ^ (exponentLimit + (precision - 1))
+unit = 10 ^ scale
 
 -- the number, or 3 where it is not in normal form
 unfoldable pub checkNumber : ℕ → Number → Answer Number

@@ -21,7 +21,7 @@ const EXPONENT_LOW: i64 = -EXPONENT_HIGH;
 pub(crate) const EXPONENT_TOP: usize = 2 * EXPONENT_LIMIT;
 
 // Every magnitude is a whole multiple of 10^-SCALE.
-const SCALE: usize = EXPONENT_LIMIT + (PRECISION - 1);
+pub const SCALE: usize = EXPONENT_LIMIT + (PRECISION - 1);
 
 // Refusal 3: a number not in normal form.
 pub const NOT_NORMAL: u8 = 3;

@@ -168,7 +168,7 @@ fn stored_exponent(image: Image, number: Number) -> usize
 }
 
 // The count of the mantissa's first digits that an image keeps of a number that fits it.
-fn kept_count(image: Image, number: Number) -> usize
+pub(crate) fn kept_count(image: Image, number: Number) -> usize
     requires { ⌜ Fit image number ⌝ }
     ensures { λ r. ⌜ r ≡ keptCount image number ⌝ }
 {

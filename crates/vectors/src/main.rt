@@ -8,6 +8,7 @@ mod shown;
 mod texts;
 
 use crate::columns::body_row;
+use crate::columns::cut_row;
 use crate::columns::image_row;
 use crate::columns::size_row;
 use crate::lines::fields_row;
@@ -139,6 +140,31 @@ fn remarks() {
     long_row();
 }
 
+// Document 02, (ii): what truncation cuts off.
+fn cut_off() {
+    // All digits dropped, none, and some.
+    cut_row(b"\x01\x02##", false, 1, 0, 5);
+    cut_row(b"\x01\x07###.###", false, 12195, 0, 3);
+    cut_row(b"\x01\x03###", false, 12195, 0, 3);
+    // Exponential with 1 and with 13 digits.
+    cut_row(b"\x01\x05#^^^^", false, 12195, 0, 3);
+    cut_row(b"\x01\x11#############^^^^", false, 12195, 9, 0);
+    // e near -99 and 99.
+    cut_row(b"\x01\x02##", false, 1, 0, 99);
+    cut_row(b"\x01\x06+#^^^^", false, 12195, 0, 103);
+    cut_row(b"\x01\x05#^^^^", false, 99999, 95, 0);
+    // Cut to zero; the sign plays no part.
+    cut_row(b"\x01\x02+#", true, 3, 0, 1);
+    cut_row(b"\x01\x01#", true, 3, 0, 1);
+    // The number zero.
+    cut_row(b"\x01\x02##", false, 0, 0, 0);
+    cut_row(b"\x01\x08+#.#^^^^", false, 0, 0, 0);
+    // Refused: the number exceeds, x is negative under an unsigned image, x is outside its limits.
+    cut_row(b"\x01\x02##", false, 1, 2, 0);
+    cut_row(b"\x01\x07#.#^^^^", false, 5, 0, 2);
+    cut_row(b"\x01\x06##^^^^", false, 1, 0, 99);
+}
+
 // Known values printed, both marked *.
 fn known_lines() {
     line_row(b"#,###.#", b"34");
@@ -240,6 +266,7 @@ fn main() {
     constants();
     later_constants();
     remarks();
+    cut_off();
     known_lines();
     printed_lines();
     earlier_lines();

@@ -2,6 +2,8 @@
 use decimal::EXPONENT_LIMIT;
 use decimal::Number;
 use decimal::Refusal;
+use decimal::Remainder;
+use decimal::SCALE;
 use libc::STDOUT_FILENO;
 
 // The room for a text, a body or a print: no row needs more.
@@ -34,20 +36,26 @@ pub(crate) fn print_signed(negative: bool, whole: u64) {
     io::print_decimal(STDOUT_FILENO, whole);
 }
 
-// Writes an exponent that is held with EXPONENT_LIMIT added.
-fn print_exponent(held: usize) {
-    if held < EXPONENT_LIMIT {
-        print_signed(true, (EXPONENT_LIMIT - held) as u64);
+// Writes e and a power that is held with some excess added.
+fn print_power(held: usize, excess: usize) {
+    print_raw(b" e ");
+    if held < excess {
+        print_signed(true, (excess - held) as u64);
     } else {
-        print_signed(false, (held - EXPONENT_LIMIT) as u64);
+        print_signed(false, (held - excess) as u64);
     }
 }
 
 // Writes a number in normal form: sign and mantissa, then e and the exponent.
 pub(crate) fn print_number(number: Number) {
     print_signed(number.negative, number.mantissa);
-    print_raw(b" e ");
-    print_exponent(number.exponent);
+    print_power(number.exponent, EXPONENT_LIMIT);
+}
+
+// Writes a remainder: r, then e and the power.
+pub(crate) fn print_remainder(remainder: Remainder) {
+    io::print_decimal(STDOUT_FILENO, remainder.whole);
+    print_power(remainder.power, SCALE);
 }
 
 // Writes a refusal's number and place.
