@@ -34,7 +34,7 @@ impl Remainder {
     };
 }
 
-// The part of a mantissa below a unit, which is what is left when its whole part in that unit is taken away.
+// The part of a mantissa below a unit: what is left of it without its whole part in that unit.
 fn part_below(mantissa: u64, unit: u64) -> u64
     requires { ⌜ 0 < unit ⌝ }
     ensures { λ r. ⌜ r ≡ mantissa % unit ⌝ }
@@ -44,13 +44,13 @@ fn part_below(mantissa: u64, unit: u64) -> u64
 
 // The last digits of a mantissa, all but its first count, as a whole number.
 fn last_digits(mantissa: u64, count: usize) -> u64
-    requires { ⌜ (mantissa < 10 ^ precision) × (count ≤ precision) ⌝ }
+    requires { ⌜ count ≤ precision ⌝ }
     ensures { λ r. ⌜ r ≡ mantissa % 10 ^ (precision - count) ⌝ }
 {
     part_below(mantissa, power_of_ten(PRECISION - count))
 }
 
-// What truncation under an image cuts off a number: r and its power; refused as fit is.
+// What truncation under an image cuts off a number: r and its power, which is 0 for the number zero alone; refused as fit is.
 pub fn remainder_of(image: Image, number: Number, place: usize) -> RemainderAnswer
     ensures { λ r. ⌜ remainderMeaning r ≡ remainder place image number ⌝ }
 {

@@ -10,7 +10,6 @@ use Rattle.decimal.specs.Answer.{Answer, done, checkMeaning}
 use Rattle.decimal.specs.Digits.{precision}
 use Rattle.decimal.specs.Truncation.{Fit, keptCount}
 use Rattle.decimal.specs.Remainder.{cutPower, cutOff, remainder}
-use Rattle.decimal.proofs.NumberLaws.{normal-high}
 use Rattle.decimal.proofs.KeptLaws.{checked-refused, checked-fits, kept-size}
 use Rattle.decimal.proofs.RemainderLaws.{remainder-path, power-zero, power-some, cut-last, remainder-fit, remainder-refused}
 use Rattle.decimal.proofs.remainder.remainder_of.Statement.{statement}
@@ -54,7 +53,7 @@ last-digits-requires c κs =
     let t = c .before in
     let a = t .before .before .before .args in
     let fit = checked-fits (a .place) (a .image) (a .number) (sym (t .before .before .fit .ensures) ∙ ap checkMeaning (t .enum-told .given .1)) in
-    (normal-high (a .number) (fit .number-checked), omega (arith, kept-size (a .image) (a .number) fit, fit .size, c .kept-count .ensures))
+    omega (arith, kept-size (a .image) (a .number) fit, fit .size, c .kept-count .ensures)
 
 returns-2 : tie.Need-returns-2
 returns-2 c =
