@@ -16,7 +16,7 @@ use Rattle.codec.specs.Contents.{IsContents, Table, readAlone}
 use Rattle.codec.specs.Order.{Truncations}
 use Rattle.codec.specs.Packing.{packList, bodyOf, packing, AllPack}
 use Rattle.codec.specs.Unpacking.{unpacking}
-use Rattle.codec.specs.Remainders.{packingRemainders, LeftEach, SumEach, RemaindersExactly}
+use Rattle.codec.specs.Remainders.{packingRemainders, RemainderEach, SumEach, RemaindersExactly}
 use Rattle.codec.proofs.ContentsTheorem.{alone-exactly, contents-unique}
 use Rattle.codec.proofs.PackLaws.{packed-anywhere, packs-under, packs-fit}
 use Rattle.codec.proofs.RoomTheorem.{packing-body}
@@ -26,17 +26,17 @@ use Rattle.codec.proofs.RemainderLaws.{leftOf, left-refused, body-packs
 -- Column by column.
 
 -- what truncation leaves of a list that packs is left by the truncations that packing uses
-packs-each : (column : ℕ) {ims : List Image} {ns : List Number} → AllPack ims ns → LeftEach column ims ns (leftOf ims ns)
+packs-each : (column : ℕ) {ims : List Image} {ns : List Number} → AllPack ims ns → RemainderEach column ims ns (leftOf ims ns)
 unfolding leftOf
-packs-each column AllPack.none = LeftEach.none
+packs-each column AllPack.none = RemainderEach.none
 packs-each column (AllPack.one {im} {n} p ps) =
-    LeftEach.one (packed-anywhere 0 im n (p .truncated 0) column) (fit-left im n (packs-fit p)) (packs-each (suc column) ps)
+    RemainderEach.one (packed-anywhere 0 im n (p .truncated 0) column) (fit-left im n (packs-fit p)) (packs-each (suc column) ps)
 
 -- and nothing else is
-each-left : {column : ℕ} {ims : List Image} {ns : List Number} {rs : List Remainder} → LeftEach column ims ns rs → rs ≡ leftOf ims ns
+each-left : {column : ℕ} {ims : List Image} {ns : List Number} {rs : List Remainder} → RemainderEach column ims ns rs → rs ≡ leftOf ims ns
 unfolding leftOf
-each-left LeftEach.none = refl
-each-left (LeftEach.one {column} {im} {n} {t} {r} cut left others) =
+each-left RemainderEach.none = refl
+each-left (RemainderEach.one {column} {im} {n} {t} {r} cut left others) =
     let to : t ≡ truncatedTo im n = one-answer cut (packed-anywhere column im n cut column) in
     let own : IsRemainder im n (truncatedTo im n) r = subst (λ (k : Truncated). IsRemainder im n k r) to left in
     ap₂ _∷_ (left-once im n (fit-left im n (packs-fit (packs-under column im n cut))) own) (each-left others)
@@ -70,20 +70,20 @@ module _ (contents : List ℕ) (ns : List Number) (room : ℕ) where
   given-each :
       {rs : List Remainder}
       → packingRemainders contents ns room ≡ done rs
-      → (body : List ℕ) × (packing contents ns room ≡ done body) × (ims : List Image) × IsContents contents ims × LeftEach 0 ims ns rs
+      → (body : List ℕ) × (packing contents ns room ≡ done body) × (ims : List Image) × IsContents contents ims × RemainderEach 0 ims ns rs
   given-each {rs} h =
       let b = remainders-body h in
       let t = body-read (b .1) in
       let same : leftOf (t .0 .images) ns ≡ rs = one-answer (body-left contents ns room (t .1) (b .1)) h in
       let each = packs-each 0 (body-packs contents ns room (t .1) (b .1)) in
-      (b .0, b .1, t .0 .images, alone-exactly contents .0 (t .1) .isContents, subst (LeftEach 0 (t .0 .images) ns) same each)
+      (b .0, b .1, t .0 .images, alone-exactly contents .0 (t .1) .isContents, subst (RemainderEach 0 (t .0 .images) ns) same each)
 
   -- and what its truncations leave is given
   each-given :
       {rs : List Remainder} {body : List ℕ} {ims : List Image}
       → packing contents ns room ≡ done body
       → IsContents contents ims
-      → LeftEach 0 ims ns rs
+      → RemainderEach 0 ims ns rs
       → packingRemainders contents ns room ≡ done rs
   each-given {rs} {body} {ims} packed is each =
       let t = body-read packed in

@@ -36,14 +36,14 @@ remaindersOf rs = record { values = filled maxColumns zeroRemainder rs; count = 
 -- Exactly which remainders packing gives: what is proved of the definitions above.
 
 -- one remainder per column: what the truncation that packing uses leaves of the column's number
-pub data LeftEach : ℕ → List Image → List Number → List Remainder → Type 0 where
-  none : {column : ℕ} → LeftEach column [] [] []
+pub data RemainderEach : ℕ → List Image → List Number → List Remainder → Type 0 where
+  none : {column : ℕ} → RemainderEach column [] [] []
   one :
       {column : ℕ} {im : Image} {n : Number} {t : Truncated} {r : Remainder} {ims : List Image} {ns : List Number} {rs : List Remainder}
       → packedTruncation column im n ≡ done t
       → IsRemainder im n t r
-      → LeftEach (suc column) ims ns rs
-      → LeftEach column (im ∷ ims) (n ∷ ns) (r ∷ rs)
+      → RemainderEach (suc column) ims ns rs
+      → RemainderEach column (im ∷ ims) (n ∷ ns) (r ∷ rs)
 
 -- each number's magnitude is that of the number read back for it, plus r × 10^power of its remainder
 pub data SumEach : List Number → List Number → List Remainder → Type 0 where
@@ -59,7 +59,7 @@ pub record RemaindersExactly (contents : List ℕ) (ns : List Number) (room : �
   pub given :
       (rs : List Remainder)
       → (packingRemainders contents ns room ≡ done rs)
-      ↔ ((body : List ℕ) × (packing contents ns room ≡ done body) × (ims : List Image) × IsContents contents ims × LeftEach 0 ims ns rs)
+      ↔ ((body : List ℕ) × (packing contents ns room ≡ done body) × (ims : List Image) × IsContents contents ims × RemainderEach 0 ims ns rs)
   -- they are refused exactly as packing is
   pub refuses :
       (number place : ℕ) → (packingRemainders contents ns room ≡ refused number place) ↔ (packing contents ns room ≡ refused number place)
