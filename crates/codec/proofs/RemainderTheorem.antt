@@ -1,14 +1,15 @@
 -- Document 02, (ii): packing gives remainders exactly where it gives a body, one per column, each what the truncation that packing uses
 -- leaves; with what the body is read back as they make the magnitudes that were packed. Assumes nothing.
-use Prim.Native.Nat.{ℕ, suc}
+use Prim.Native.Nat.{ℕ, suc, _<_}
 use mathlib.Core.Path.{_≡_, refl, ap, ap₂, sym, subst, _∙_}
-use mathlib.Core.List.{List, _∷_}
+use mathlib.Core.List.{List, [], _∷_}
+use lib.ListN.{getD}
 use Rattle.decimal.specs.declared.image.Image.{Image}
 use Rattle.decimal.specs.declared.number.Number.{Number}
 use Rattle.decimal.specs.declared.remainder.Remainder.{Remainder}
-use Rattle.decimal.specs.Answer.{Answer, done, refused}
+use Rattle.decimal.specs.Answer.{Answer, done, refused, given}
 use Rattle.decimal.specs.Truncation.{Truncated, truncatedTo}
-use Rattle.decimal.specs.Remainder.{IsRemainder}
+use Rattle.decimal.specs.Remainder.{zeroRemainder, IsRemainder}
 use Rattle.decimal.proofs.AnswerLaws.{never, one-answer, then-done, refused-first}
 use Rattle.decimal.proofs.RemainderLaws.{remainder-fit}
 use Rattle.decimal.proofs.RemainderTheorem.{left-once, fit-left, remainder-exactly}
@@ -16,12 +17,14 @@ use Rattle.codec.specs.Contents.{IsContents, Table, readAlone}
 use Rattle.codec.specs.Order.{Truncations}
 use Rattle.codec.specs.Packing.{packList, bodyOf, packing, AllPack}
 use Rattle.codec.specs.Unpacking.{unpacking}
-use Rattle.codec.specs.Remainders.{packingRemainders, RemainderEach, SumEach, RemaindersExactly}
+use Rattle.codec.specs.Lists.{maxColumns}
+use Rattle.codec.specs.Remainders.{packingRemainders, remaindersOf, RemainderEach, SumEach, RemaindersExactly}
+use Rattle.codec.proofs.ListLaws.{filled-at}
 use Rattle.codec.proofs.ContentsTheorem.{alone-exactly, contents-unique}
 use Rattle.codec.proofs.PackLaws.{packed-anywhere, packs-under, packs-fit}
 use Rattle.codec.proofs.RoomTheorem.{packing-body}
 use Rattle.codec.proofs.ReadBackTheorem.{contents-read-back}
-use Rattle.codec.proofs.RemainderLaws.{leftOf, left-refused, body-packs, body-left}
+use Rattle.codec.proofs.RemainderLaws.{leftOf, left-refused, refused-none, body-packs, body-left}
 
 -- Column by column.
 
@@ -47,6 +50,11 @@ unfolding leftOf
 packs-sum AllPack.none Truncations.none = SumEach.none
 packs-sum (AllPack.one {im} {n} p ps) (Truncations.one cut others) =
     SumEach.one (remainder-exactly 0 im n .number-sum (cut 0) (remainder-fit im n (packs-fit p) 0)) (packs-sum ps others)
+
+-- Published: what stands in the code's list, place by place: the remainders, and behind them that of zero.
+pub list-places : (rs : List Remainder) (i : ℕ) (d : Remainder) → i < maxColumns → getD (remaindersOf rs .values) i d ≡ getD rs i zeroRemainder
+unfolding remaindersOf
+list-places rs i d h = filled-at zeroRemainder maxColumns rs i d h
 
 -- The packing call.
 
@@ -95,6 +103,15 @@ module _ (contents : List ℕ) (ns : List Number) (room : ℕ) where
   unfolding packingRemainders
   refused-as number place h =
       refused-first (packing contents ns room) _ (λ body e. (leftOf (body-read e .0 .images) ns, body-left contents ns room (body-read e .1) e)) h
+
+  -- Published: where packing is refused, the code's list has the count 0, and the remainder of zero stands in every place.
+  pub refused-places :
+      {number place : ℕ}
+      → packing contents ns room ≡ refused number place
+      → (remaindersOf (given (packingRemainders contents ns room)) .count ≡ 0)
+      × ((i : ℕ) (d : Remainder) → i < maxColumns → getD (remaindersOf (given (packingRemainders contents ns room)) .values) i d ≡ zeroRemainder)
+  unfolding remaindersOf
+  refused-places h = rw (refused-none contents ns room h) (refl, λ i d few. list-places [] i d few)
 
   -- what the body is read back as, and the remainders
   back-sum :
