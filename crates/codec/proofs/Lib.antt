@@ -10,8 +10,8 @@ pub mod RunLaws
 pub mod ColumnLaws
 pub mod PackLaws
 pub mod BodyLaws
-pub mod RemainderLaws
 pub mod RoomTheorem
+pub mod RemainderLaws
 pub mod UnpackLaws
 pub mod OrderTheorem
 pub mod ColumnTheorem

@@ -266,7 +266,7 @@ accepts {ims} checked {body} known = (
 -- The same for every contents; where it is refused, neither side holds.
 
 -- a list is packed where the contents is read and the list is packed under its images
-contents-packs :
+pub contents-packs :
     (contents : List ℕ) (ns : List Number) {body : List ℕ}
     → bodyOf contents ns ≡ done body
     → (table : Table) × (readAlone contents ≡ done table) × (packList (table .images) ns ≡ done body)

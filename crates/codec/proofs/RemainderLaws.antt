@@ -13,13 +13,13 @@ use Rattle.decimal.specs.declared.remainder.Remainder.{Remainder}
 use Rattle.decimal.specs.Answer.{Answer, done, refused, _then_, given}
 use Rattle.decimal.specs.Truncation.{truncatedTo, Fit}
 use Rattle.decimal.specs.Remainder.{zeroRemainder, cutOff, remainder}
-use Rattle.decimal.proofs.AnswerLaws.{then-done, then-next, then-refused}
+use Rattle.decimal.proofs.AnswerLaws.{then-next, then-refused}
 use Rattle.decimal.proofs.RemainderLaws.{remainder-fit}
 use Rattle.codec.specs.declared.contents.Contents.{Contents}
 use Rattle.codec.specs.declared.lists.Images.{Images}
 use Rattle.codec.specs.declared.lists.Numbers.{Numbers}
 use Rattle.codec.specs.declared.remainders.Remainders.{Remainders}
-use Rattle.codec.specs.Answers.{sized, within}
+use Rattle.codec.specs.Answers.{sized}
 use Rattle.codec.specs.Contents.{Table, readAlone, contentsOf}
 use Rattle.codec.specs.Lists.{filled, listOf, maxColumns, noImage, imageList}
 use Rattle.codec.specs.Packing.{packList, bodyOf, packing, packingUnder, AllPack}
@@ -30,6 +30,7 @@ use Rattle.codec.proofs.ContentsLaws.{alone-sound, alone-read}
 use Rattle.codec.proofs.UnderLaws.{image-count, image-list, lent-images, packing-lent}
 use Rattle.codec.proofs.PackLaws.{packed-anywhere, packs-length}
 use Rattle.codec.proofs.BodyLaws.{list-length, list-front, packed-only, fits-at}
+use Rattle.codec.proofs.RoomTheorem.{packing-body}
 
 -- Column by column.
 
@@ -96,10 +97,9 @@ pub body-packs :
     → readAlone contents ≡ done table
     → packing contents ns room ≡ done body
     → AllPack (table .images) ns
-unfolding packing bodyOf
+unfolding bodyOf
 body-packs contents ns room {table} reads h =
-    let b = then-done (bodyOf contents ns) (within room) h in
-    packed-only (table .images) ns (sym (then-next (λ (t : Table). packList (t .images) ns) reads) ∙ b .first)
+    packed-only (table .images) ns (sym (then-next (λ (t : Table). packList (t .images) ns) reads) ∙ packing-body contents ns room h)
 
 -- and packing leaves what its truncations leave
 pub body-left :

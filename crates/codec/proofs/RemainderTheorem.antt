@@ -10,12 +10,12 @@ use Rattle.decimal.specs.declared.remainder.Remainder.{Remainder}
 use Rattle.decimal.specs.Answer.{Answer, done, refused, given}
 use Rattle.decimal.specs.Truncation.{Truncated, truncatedTo}
 use Rattle.decimal.specs.Remainder.{zeroRemainder, IsRemainder}
-use Rattle.decimal.proofs.AnswerLaws.{never, one-answer, then-done, refused-first}
+use Rattle.decimal.proofs.AnswerLaws.{never, one-answer, refused-first}
 use Rattle.decimal.proofs.RemainderLaws.{remainder-fit}
 use Rattle.decimal.proofs.RemainderTheorem.{left-once, fit-left, remainder-exactly}
 use Rattle.codec.specs.Contents.{IsContents, Table, readAlone}
 use Rattle.codec.specs.Order.{Truncations}
-use Rattle.codec.specs.Packing.{packList, bodyOf, packing, AllPack}
+use Rattle.codec.specs.Packing.{packing, AllPack}
 use Rattle.codec.specs.Unpacking.{unpacking}
 use Rattle.codec.specs.Lists.{maxColumns}
 use Rattle.codec.specs.Remainders.{packingRemainders, remaindersOf, RemainderEach, SumEach, RemaindersExactly}
@@ -23,7 +23,7 @@ use Rattle.codec.proofs.ListLaws.{filled-at}
 use Rattle.codec.proofs.ContentsTheorem.{alone-exactly, contents-unique}
 use Rattle.codec.proofs.PackLaws.{packed-anywhere, packs-under, packs-fit}
 use Rattle.codec.proofs.RoomTheorem.{packing-body}
-use Rattle.codec.proofs.ReadBackTheorem.{contents-read-back}
+use Rattle.codec.proofs.ReadBackTheorem.{contents-packs, contents-read-back}
 use Rattle.codec.proofs.RemainderLaws.{leftOf, left-refused, refused-none, body-packs, body-left}
 
 -- Column by column.
@@ -61,10 +61,7 @@ list-places rs i d h = filled-at zeroRemainder maxColumns rs i d h
 module _ (contents : List ℕ) (ns : List Number) (room : ℕ) where
   -- where there is a body, the contents is read
   body-read : {body : List ℕ} → packing contents ns room ≡ done body → (table : Table) × (readAlone contents ≡ done table)
-  unfolding bodyOf
-  body-read h =
-      let b = then-done (readAlone contents) (λ (table : Table). packList (table .images) ns) (packing-body contents ns room h) in
-      (b .value, b .first)
+  body-read h = let p = contents-packs contents ns (packing-body contents ns room h) in (p .0, p .1)
 
   -- where there are remainders, there is a body
   remainders-body : {rs : List Remainder} → packingRemainders contents ns room ≡ done rs → (body : List ℕ) × (packing contents ns room ≡ done body)

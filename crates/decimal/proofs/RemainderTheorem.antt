@@ -14,7 +14,7 @@ use Rattle.decimal.specs.Answer.{done, refused}
 use Rattle.decimal.specs.Digits.{precision}
 use Rattle.decimal.specs.Number.{exponentLimit, magnitude, scale}
 use Rattle.decimal.specs.Truncation.{wholeOf, storedExponent, Truncated, truncatedTo, truncation, Fit, numberOf, truncatedNumber}
-use Rattle.decimal.specs.Remainder.{powerOf, zeroRemainder, truncatedUnits, Sums, IsRemainder, cutPower, cutOff, remainder, RemainderExactly}
+use Rattle.decimal.specs.Remainder.{powerOf, zeroRemainder, finer, truncatedUnits, Sums, IsRemainder, cutPower, cutOff, remainder, RemainderExactly}
 use Rattle.decimal.proofs.AnswerLaws.{refused-first, done-same, one-answer, then-done}
 use Rattle.decimal.proofs.BoolLaws.{zero-or-not}
 use Rattle.decimal.proofs.PowerLaws.{pow10-pos}
@@ -57,10 +57,10 @@ module _ (im : Image) (n : Number) where
   -- the r with a power that fulfils the sentence is the only one
   sums-once : (t : Truncated) (r s : Remainder) → s .power ≡ r .power → Sums im n t r → Sums im n t s → s ≡ r
   sums-once t r s same h g =
-      let at-power : truncatedUnits t + s .whole * 10 ^ r .power * 10 ^ (exponentLimit + im .fraction) ≡ magnitude n * 10 ^ (exponentLimit + im .fraction) =
-      subst (λ (p : ℕ). truncatedUnits t + s .whole * 10 ^ p * 10 ^ (exponentLimit + im .fraction) ≡ magnitude n * 10 ^ (exponentLimit + im .fraction)) same g in
+      let at-power : truncatedUnits t + s .whole * 10 ^ r .power * finer im ≡ magnitude n * finer im =
+      subst (λ (p : ℕ). truncatedUnits t + s .whole * 10 ^ p * finer im ≡ magnitude n * finer im) same g in
       remainder-path
-      (units-cancel (truncatedUnits t) (s .whole) (r .whole) (10 ^ r .power) (10 ^ (exponentLimit + im .fraction)) _ (pow10-pos (r .power)) (pow10-pos (exponentLimit + im .fraction)) at-power h)
+      (units-cancel (truncatedUnits t) (s .whole) (r .whole) (10 ^ r .power) (finer im) _ (pow10-pos (r .power)) (pow10-pos (exponentLimit + im .fraction)) at-power h)
       same
 
   -- a truncation leaves one remainder
@@ -81,8 +81,8 @@ module _ (im : Image) (n : Number) where
         zero = λ z. (cut-last im n fit ∙ last-zero im n z, ap (λ (p : ℕ). pos p -ℤ pos scale) (power-zero n z) ∙ +ℤ-invr (pos scale));
         sum =
             ap (λ (q : ℕ). truncatedUnits (truncatedTo im n) + q)
-            (ap (λ (w : ℕ). w * 10 ^ cutPower n * 10 ^ (exponentLimit + im .fraction)) (cut-last im n fit)
-            ∙ other-power (lastDigits im n) (cutPower n) (n .exponent) (10 ^ (exponentLimit + im .fraction)) zero-or-power)
+            (ap (λ (w : ℕ). w * 10 ^ cutPower n * finer im) (cut-last im n fit)
+            ∙ other-power (lastDigits im n) (cutPower n) (n .exponent) (finer im) zero-or-power)
             ∙ last-sum im n fit;
       }
     where
@@ -132,7 +132,7 @@ module _ (place : ℕ) (im : Image) (n : Number) where
       let g = given-left h in
       let t : Truncated = b .value in
       let sums : Sums im n t r = subst (λ (u : Truncated). Sums im n u r) (one-answer (g .1) (b .first)) (g .2 .sum) in
-      let d : ℕ = 10 ^ (exponentLimit + im .fraction) in
+      let d : ℕ = finer im in
       let size : magnitude m * d ≡ truncatedUnits t = scaled-magnitude place (t .negative) (t .whole) (t .x) (exponentLimit + im .fraction) (b .second) in
       eq-of-mul-eq-mul-right d (pow10-pos (exponentLimit + im .fraction)) (magnitude m + r .whole * 10 ^ r .power) (magnitude n)
       (add-mul (magnitude m) (r .whole * 10 ^ r .power) d ∙ ap (λ (q : ℕ). q + r .whole * 10 ^ r .power * d) size ∙ sums)

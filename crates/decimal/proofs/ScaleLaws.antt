@@ -3,7 +3,7 @@
 use Prim.Native.Nat.{ℕ, suc, _+_, _-_, _*_, _/_, _%_, _^_, _≤_, _<_}
 use mathlib.Core.Path.{_≡_, ap, ap₂, sym, _∙_}
 use native.Mathlib.Omega.{arith}
-use native.Mathlib.Nat.{mul-le-mul, mul-le-mul-right, mul-lt-mul-of-pos-right, mul-assoc, mul-div-mul-right, mul-div-cancel, div-eq-of-lt, le-div-iff-mul-le, div-lt-iff-lt-mul, div-mul-le-self, div-add-mod', lt-of-lt-of-le}
+use native.Mathlib.Nat.{add-mul, mul-le-mul, mul-le-mul-right, mul-lt-mul-of-pos-right, mul-assoc, mul-div-mul-right, mul-div-cancel, div-eq-of-lt, le-div-iff-mul-le, div-lt-iff-lt-mul, div-mul-le-self, div-add-mod', lt-of-lt-of-le}
 use Rattle.decimal.proofs.PowerLaws.{pow10-pos, pow10-add, pow10-mono}
 
 -- a product of three powers is the power of the sum
@@ -60,3 +60,16 @@ module _ (p m r : ℕ) where
   -- the remainder taken away is the same cut
   pub cut-by-remainder : m - m % 10 ^ r ≡ m / 10 ^ r * 10 ^ r
   cut-by-remainder = omega (arith, div-add-mod' m (10 ^ r))
+
+-- what a sum has above its first part, counted in multiples
+pub sum-counted : (a b c k : ℕ) → 0 < k → a + c * k ≡ b → (b - a) / k ≡ c
+sum-counted a b c k some h =
+    let rest : b - a ≡ c * k = omega arith in
+    ap (λ (q : ℕ). q / k) rest ∙ mul-div-cancel c some
+
+-- a number is its first digits with zeros and its last digits, also in other units
+pub cut-sum : (m k p d : ℕ) → m / k * k * p * d + m % k * p * d ≡ m * p * d
+cut-sum m k p d =
+    sym (add-mul (m / k * k * p) (m % k * p) d)
+    ∙ ap (λ (q : ℕ). q * d) (sym (add-mul (m / k * k) (m % k) p))
+    ∙ ap (λ (q : ℕ). q * p * d) (div-add-mod' m k)

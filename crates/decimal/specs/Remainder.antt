@@ -27,9 +27,13 @@ zeroRemainder = record { whole = 0; power = scale }
 
 -- The sentence. After scaling, each of its three magnitudes is a whole number of units of 10^−scale / 10^(99 + f).
 
+-- so many of these units make 10^−scale, the unit of magnitudes
+abbrev pub finer : Image → ℕ
+finer im = 10 ^ (exponentLimit + im .fraction)
+
 -- the number's magnitude
 abbrev pub magnitudeUnits : Image → Number → ℕ
-magnitudeUnits im n = magnitude n * 10 ^ (exponentLimit + im .fraction)
+magnitudeUnits im n = magnitude n * finer im
 
 -- the truncated magnitude, k / 10^f × 10^x
 abbrev pub truncatedUnits : Truncated → ℕ
@@ -37,7 +41,7 @@ truncatedUnits t = t .whole * 10 ^ t .x * unit
 
 -- r × 10^power
 abbrev pub remainderUnits : Image → Remainder → ℕ
-remainderUnits im r = r .whole * 10 ^ r .power * 10 ^ (exponentLimit + im .fraction)
+remainderUnits im r = r .whole * 10 ^ r .power * finer im
 
 -- truncated magnitude plus r × 10^power is the magnitude
 abbrev pub Sums : Image → Number → Truncated → Remainder → Type 0
@@ -64,7 +68,7 @@ cutPower n = pick (eqb (n .mantissa) 0) scale (n .exponent)
 unfoldable pub cutOff : Image → Number → Truncated → Remainder
 cutOff im n t =
     record {
-      whole = (magnitudeUnits im n - truncatedUnits t) / (10 ^ cutPower n * 10 ^ (exponentLimit + im .fraction));
+      whole = (magnitudeUnits im n - truncatedUnits t) / (10 ^ cutPower n * finer im);
       power = cutPower n;
     }
 
