@@ -128,6 +128,15 @@ fn show(file: &[u8], index: &[u8]) -> String {
     format!("{} {}", answer(result, |(start, length)| format!("{start} {length}")), hexadecimal(body))
 }
 
+/// Answers the call that finds positions: the count of comparisons, and 64 record numbers, 0 behind the last position.
+fn find(file: &[u8], items: &[u8]) -> String {
+    let result = model::find(file, &numbers(items));
+    let mut records = result.clone().map(|found| found.records).unwrap_or_default();
+    records.resize(model::MOST_POSITIONS, 0);
+    let words: String = records.iter().map(|record| format!(" {record}")).collect();
+    answer(result, |found| found.comparisons.to_string()) + &words
+}
+
 /// Answers the call that unpacks a body.
 fn unpack(contents: &[u8], body: &[u8]) -> String {
     let result = model::unpack(contents, body);
@@ -237,6 +246,7 @@ fn call(line: &str) -> Option<String> {
         "show" => show(&a, &b),
         "list" => list(&a, &b),
         "report" => report(&a, &b),
+        "find" => find(&a, &b),
         _ => return None,
     })
 }

@@ -103,6 +103,15 @@ fn show_answer(file: &str, r: &str) -> Option<String> {
     Some(answer(result, |(start, length)| format!("{start} {length}")))
 }
 
+/// Makes a call that finds positions.
+fn find_answer(file: &str, positions: &str) -> Option<String> {
+    let result = model::find(&bytes(file)?, &list(positions, number)?);
+    Some(answer(result, |found| {
+        let records: Vec<String> = found.records.iter().map(usize::to_string).collect();
+        format!("{} {}", if records.is_empty() { ".".to_string() } else { records.join(",") }, found.comparisons)
+    }))
+}
+
 /// Makes the call that the words before the arrow stand for; nothing if they cannot be read.
 fn make_call(words: &[&str]) -> Option<String> {
     Some(match *words {
@@ -123,6 +132,7 @@ fn make_call(words: &[&str]) -> Option<String> {
         ["print", line, elements, texts, room] => print_answer(line, elements, texts, room)?,
         ["add", buffer, used, numbers] => add_answer(buffer, used, numbers)?,
         ["show", file, r] => show_answer(file, r)?,
+        ["find", file, positions] => find_answer(file, positions)?,
         ["contents", contents, room] => bytes_answer(model::write_contents(&bytes(contents)?, size(room)?)),
         ["listing", file] => format!("ok {}", hexadecimal(&model::listing_output(&bytes(file)?))),
         _ => return None,

@@ -7,6 +7,7 @@ mod model;
 use answers::hexadecimal;
 use files::Random;
 use model::{Element, Number};
+use std::cmp::Ordering;
 use std::io::Write;
 
 /// Gives one of some values.
@@ -286,6 +287,80 @@ fn listing(random: &mut Random, name: &str) -> Vec<Vec<u8>> {
     vec![buffer_for(random, whole.len()), file]
 }
 
+/// Gives numbers in the order of their values.
+fn ordered(mut numbers: Vec<Number>) -> Vec<Number> {
+    numbers.sort_by(|a, b| if !model::at_least(a, b) { Ordering::Less } else if a == b { Ordering::Equal } else { Ordering::Greater });
+    numbers
+}
+
+/// Gives a file to find positions in: mostly with an unsigned fixed-point first column that does not fall, and equal ones in it; at times
+/// one with a bad half, which may stand behind all positions, or damaged otherwise.
+fn file_in_order(random: &mut Random) -> Vec<u8> {
+    if random.below(12) == 0 {
+        return file(random);
+    }
+    let mut images = files::images(random);
+    if random.below(12) > 0 {
+        images[0] = one_of(random, &[&b"#"[..], b"##", b"###", b"##.#", b".###", b"#####", b"#######.######", b"#############"]).to_vec();
+    }
+    let mut bytes = files::contents_of(&images);
+    let read = model::read_contents_alone(&bytes).unwrap_or_default();
+    let Some(first) = read.first() else { return bytes };
+    let count = if random.below(6) == 0 { 0 } else { random.below(9) };
+    let mut keys: Vec<Number> = (0..count).map(|_| Number { negative: false, ..files::number(random, first) }).collect();
+    if random.below(8) > 0 {
+        keys = ordered(keys);
+    }
+    for index in 1..count {
+        if random.below(4) == 0 {
+            keys[index] = keys[index - 1];
+        }
+    }
+    let front = bytes.len();
+    for key in keys {
+        let mut numbers: Vec<Number> = read.iter().map(|image| files::number(random, image)).collect();
+        numbers[0] = key;
+        bytes.extend(model::pack_list(&read, &numbers).unwrap_or_default());
+    }
+    let behind = bytes.len() - model::body_length(&read).min(bytes.len() - front);
+    match random.below(24) {
+        0 | 1 => files::change(random, &mut bytes, front),
+        2 => files::change(random, &mut bytes, behind),
+        3 => bytes.truncate(random.below(bytes.len() + 1)),
+        _ => {}
+    }
+    bytes
+}
+
+/// Gives a position for a file: a record's first column, one a little below or above it, or any number, at times not in normal form.
+fn position(random: &mut Random, columns: &[Number]) -> Number {
+    if columns.is_empty() || random.below(4) == 0 {
+        let number = any_number(random);
+        return if number.is_normal() || random.below(8) == 0 { number } else { Number::ZERO };
+    }
+    let column = one_of(random, columns);
+    let near = match random.below(6) {
+        0 => Number { m: column.m + 1, ..column },
+        1 => Number { m: column.m.saturating_sub(1), ..column },
+        2 => Number { negative: true, ..column },
+        _ => column,
+    };
+    if near.is_normal() { near } else { column }
+}
+
+/// Gives the words of a call that finds positions: mostly positions that do not fall, before, between, at and behind the records.
+fn find(random: &mut Random) -> Vec<Vec<u8>> {
+    let file = file_in_order(random);
+    let columns: Vec<Number> = match model::read_file(&file) {
+        Ok((images, bodies)) => bodies.iter().filter_map(|body| model::unpack_body(&images, body).ok()).map(|record| record[0]).collect(),
+        Err(_) => Vec::new(),
+    };
+    let count = if random.below(16) == 0 { 62 + random.below(5) } else { random.below(8) };
+    let positions: Vec<Number> = (0..count).map(|_| position(random, &columns)).collect();
+    let keep = random.below(8) == 0 || !positions.iter().all(Number::is_normal);
+    vec![file, items(&if keep { positions } else { ordered(positions) })]
+}
+
 /// Gives the words of a call by its name.
 fn words(random: &mut Random, name: &str) -> Vec<Vec<u8>> {
     match name {
@@ -318,15 +393,17 @@ fn words(random: &mut Random, name: &str) -> Vec<Vec<u8>> {
             vec![buffer_for(random, contents.len()), contents]
         }
         "add" => add(random),
+        "find" => find(random),
         "show" => vec![file(random), size(one_of(random, &[0, 0, 1, 1, 2, 3, 4, 5, 6, usize::MAX]))],
         _ => listing(random, name),
     }
 }
 
 /// The names of the calls; those that have most to get wrong stand there more than once.
-const NAMES: [&str; 27] = [
+const NAMES: [&str; 30] = [
     "compare", "image", "truncate", "pack", "pack", "cutoff", "cutoff", "unpack", "unpack", "alpha", "legal", "read", "convert", "place",
-    "numbers", "scan", "print", "print", "print", "forecast", "field", "contents", "add", "add", "show", "list", "report",
+    "numbers", "scan", "print", "print", "print", "forecast", "field", "contents", "add", "add", "show", "list", "report", "find", "find",
+    "find",
 ];
 
 /// Damages a line so that it is no call, for most lines.

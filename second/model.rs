@@ -1,5 +1,5 @@
-//! Document 01 as plain functions on slices: a second implementation, written from the document alone, but for `compare`,
-//! `next_number_place` and `read_text_numbers`, which the document does not have.
+//! Documents 01 and 02 as plain functions on slices: a second implementation, written from the documents alone, but for `compare`,
+//! `next_number_place` and `read_text_numbers`, which they do not have.
 //! Each program that includes this file uses only some of the functions.
 #![allow(dead_code)]
 
@@ -70,6 +70,7 @@ pub const MOST_DIGITS: usize = 13;
 pub const MOST_COLUMNS: usize = 16;
 pub const MOST_ELEMENTS: usize = 64;
 pub const LONGEST_LINE: usize = 4096;
+pub const MOST_POSITIONS: usize = 64;
 
 /// Makes a refused answer.
 pub fn refuse<T>(number: u8, place: usize) -> Result<T, Refusal> {
@@ -788,4 +789,73 @@ pub fn listing_output(file: &[u8]) -> Vec<u8> {
 /// Gives the line that a refusal prints.
 pub fn refusal_line(refusal: Refusal) -> Vec<u8> {
     format!("refused {} {}\n", refusal.number, refusal.place).into_bytes()
+}
+
+// ---- Document 02, (iii) ----
+
+/// Gives a number's magnitude in units of 10^-111, as a row of 211 digits.
+fn units(number: &Number) -> Vec<u8> {
+    let zeros = (number.e + 99) as usize;
+    let digits = [digits_of(number.m, MOST_DIGITS), vec![0; zeros]].concat();
+    [vec![0; 211 - digits.len()], digits].concat()
+}
+
+/// Tells whether a normal number is at least another by value.
+pub fn at_least(first: &Number, second: &Number) -> bool {
+    match (first.negative, second.negative) {
+        (false, true) => true,
+        (true, false) => false,
+        (false, false) => units(first) >= units(second),
+        (true, true) => units(first) <= units(second),
+    }
+}
+
+/// Tells whether a number is less than the one before it.
+fn falls(numbers: &[Number]) -> bool {
+    numbers.windows(2).any(|pair| !at_least(&pair[1], &pair[0]))
+}
+
+/// Counts the comparisons of the walk over positions and first columns.
+fn comparisons(positions: &[Number], columns: &[Number]) -> usize {
+    let (mut position, mut record, mut count) = (0, 0, 0);
+    while position < positions.len() && record < columns.len() {
+        count += 1;
+        if at_least(&columns[record], &positions[position]) {
+            position += 1;
+        } else {
+            record += 1;
+        }
+    }
+    count
+}
+
+/// What the search for a page's positions gives: a record number for each, and the count of comparisons.
+#[derive(Clone, Debug, PartialEq, Eq)]
+pub struct Found {
+    pub records: Vec<usize>,
+    pub comparisons: usize,
+}
+
+/// Finds for each position the first record whose first column is at least the position, or the record count.
+pub fn find(file: &[u8], positions: &[Number]) -> Result<Found, Refusal> {
+    let (images, bodies) = read_file(file)?;
+    if positions.len() > MOST_POSITIONS {
+        return refuse(10, 0);
+    }
+    let records = bodies.iter().map(|body| unpack_body(&images, body)).collect::<Result<Vec<_>, _>>()?;
+    for (index, position) in positions.iter().enumerate() {
+        require_normal(position, index)?;
+    }
+    if images[0].sign.is_some() || images[0].exponential {
+        return refuse(16, 0);
+    }
+    if falls(positions) {
+        return refuse(14, 0);
+    }
+    let columns: Vec<Number> = records.iter().map(|record| record[0]).collect();
+    if falls(&columns) {
+        return refuse(15, 0);
+    }
+    let first = |position| columns.iter().position(|column| at_least(column, position)).unwrap_or(columns.len());
+    Ok(Found { records: positions.iter().map(first).collect(), comparisons: comparisons(positions, &columns) })
 }

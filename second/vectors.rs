@@ -244,6 +244,43 @@ fn cut_rows() -> String {
     rows.iter().map(|&(image, whole, scale)| cut_row(image, whole, scale)).collect()
 }
 
+/// Gives the row of a file and positions, written as a text: the records found, and the count of comparisons.
+fn page_row(file: &[u8], text: &str) -> String {
+    let positions: Vec<Number> = text.split_whitespace().filter_map(|part| model::convert(part.as_bytes()).ok()).collect();
+    let answer = match model::find(file, &positions) {
+        Ok(found) => {
+            let records: String = found.records.iter().map(|record| format!(" {record}")).collect();
+            format!("records{records}, comparisons {}", found.comparisons)
+        }
+        Err(refusal) => refusal_words(refusal),
+    };
+    format!("file {} at '{text}': {answer}\n", hexadecimal_words(file))
+}
+
+/// Gives the rows of positions found in files: document 02, (iii).
+fn page_rows() -> String {
+    let steps = [1, 2, b'#', b'#', 0x05, 0x12, 0x12, 0x99];
+    let falling = [1, 2, b'#', b'#', 0x05, 0x12, 0x11];
+    let rows: [(&[u8], &str); 15] = [
+        (&steps, "-3 0 5 5.001 12 12.5 99 99.1 1E99"),
+        (&steps, "1E-99 12"),
+        (&[1, 4, b'#', b'#', b'.', b'#', 0x01, 0x20, 0x12, 0x50], "1.199 1.2 1.25 12.5 13"),
+        (&steps, ""),
+        (&[1, 2, b'#', b'#'], "1 2"),
+        (&[1, 2, b'#', b'#'], ""),
+        (&[2, 1, b'#', 1, b'#', 0x10, 0x10, 0x20, 0x2a], "0"),
+        (&falling, "1"),
+        (&falling, ""),
+        (&[1, 2, b'#', b'#', 0x05, 0x12], "12 11.9"),
+        (&[1, 2, b'#', b'#', 0x12, 0x05], "12 11.9"),
+        (&[1, 2, b'+', b'#'], ""),
+        (&[1, 5, b'#', b'^', b'^', b'^', b'^', 0x50, 0x00], "2 1"),
+        (&[1, 2, b'#'], "1"),
+        (&[1, 3, b'#', b'#', b'#', 0x01, 0x20, 0x01], "1"),
+    ];
+    rows.iter().map(|&(file, text)| page_row(file, text)).collect()
+}
+
 /// Gives the rows of printed lines: known values, then sources 000, 001 and 004.
 fn line_rows() -> String {
     let rows = [
@@ -296,6 +333,6 @@ fn fields_rows() -> String {
 
 /// Prints all rows.
 fn main() -> std::io::Result<()> {
-    let rows = [image_rows(), size_rows(), body_rows(), text_rows(), read_rows(), cut_rows(), line_rows(), fields_rows()];
+    let rows = [image_rows(), size_rows(), body_rows(), text_rows(), read_rows(), cut_rows(), page_rows(), line_rows(), fields_rows()];
     std::io::stdout().write_all(rows.concat().as_bytes())
 }

@@ -8,6 +8,8 @@ use codec::Numbers;
 use decimal::Number;
 use records::ELEMENTS;
 use records::Element;
+use rolls::POSITIONS;
+use rolls::Positions;
 
 // The bytes of an item.
 const ITEM: usize = 17;
@@ -84,4 +86,19 @@ pub(crate) fn elements_in(bytes: &[u8]) -> [Element; ELEMENTS] {
         i += 1;
     }
     elements
+}
+
+// The positions of a list; past POSITIONS they only count.
+pub(crate) fn positions_in(bytes: &[u8]) -> Positions {
+    let elements = elements_in(bytes);
+    let mut values = [Number::ZERO; POSITIONS];
+    let mut i = 0;
+    while i < POSITIONS {
+        values[i] = number_of(elements[i]);
+        i += 1;
+    }
+    Positions {
+        values,
+        count: element_count(bytes),
+    }
 }

@@ -3,10 +3,12 @@ use crate::items::element_count;
 use crate::items::elements_in;
 use crate::items::number_in;
 use crate::items::numbers_in;
+use crate::items::positions_in;
 use crate::shown::print_buffer;
 use crate::shown::print_bytes;
 use crate::shown::print_check;
 use crate::shown::print_count;
+use crate::shown::print_counts;
 use crate::shown::print_number;
 use crate::shown::print_numbers;
 use crate::shown::print_parts;
@@ -30,6 +32,7 @@ use records::AddAnswer;
 use records::ForecastAnswer;
 use records::PrintAnswer;
 use records::ShowAnswer;
+use rolls::FindAnswer;
 
 // pack BUFFER CONTENTS NUMBERS
 pub(crate) fn pack(buffer: &mut [u8], contents: &[u8], numbers: &[u8]) {
@@ -172,6 +175,21 @@ pub(crate) fn list(buffer: &mut [u8], file: &[u8]) {
 pub(crate) fn report(buffer: &mut [u8], file: &[u8]) {
     let answer = records::report(file, &mut *buffer);
     print_written(answer, &*buffer);
+}
+
+// find FILE POSITIONS: the count of comparisons, and the record numbers, those past the last position too.
+pub(crate) fn find(file: &[u8], positions: &[u8]) {
+    let found = rolls::find(file, positions_in(positions));
+    let answer = found.answer;
+    match answer {
+        FindAnswer::Refused(refusal) => print_refusal(refusal),
+        FindAnswer::Found(comparisons) => {
+            print_raw(b"ok");
+            print_count(comparisons);
+        }
+    }
+    let records = found.records;
+    print_counts(&records);
 }
 
 // compare NUMBER NUMBER

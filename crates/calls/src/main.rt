@@ -23,7 +23,7 @@ const INPUT: usize = 1 << 18;
 const SPACE: usize = 8192;
 
 // Makes a call. Its name stands as the whole number that its bytes are: compare, image, truncate; pack, cutoff, unpack, alpha, legal, read,
-// convert, place, numbers; scan, print, forecast, field; contents, add, show, list, report.
+// convert, place, numbers; scan, print, forecast, field; contents, add, show, list, report; find.
 fn make(name: usize, first: &mut [u8], second: &[u8], third: &[u8], fourth: &[u8]) {
     match name {
         0x636f6d70617265 => layers::compare(&*first, second),
@@ -47,6 +47,7 @@ fn make(name: usize, first: &mut [u8], second: &[u8], third: &[u8], fourth: &[u8
         0x73686f77 => layers::show(&*first, second),
         0x6c697374 => layers::list(first, second),
         0x7265706f7274 => layers::report(first, second),
+        0x66696e64 => layers::find(&*first, second),
         _ => print_damaged(),
     }
 }

@@ -23,6 +23,15 @@ pub(crate) fn print_count(count: usize) {
     io::print_decimal(STDOUT_FILENO, count as u64);
 }
 
+// Writes counts, a blank before each.
+pub(crate) fn print_counts(counts: &[usize]) {
+    let mut i = 0;
+    while i < counts.len() {
+        print_count(counts[i]);
+        i += 1;
+    }
+}
+
 // Writes a byte in hexadecimal.
 fn print_byte(byte: u8) {
     io::print_hex(STDOUT_FILENO, byte as u64, 2);

@@ -7,6 +7,12 @@ use lib.Seq.{getD-append-add, getD-take, drop-cons, length-take-le}
 use lib.ListN.{List·getD-append, length, take, drop, getD, set}
 use Rattle.codec.specs.Lists.{filled}
 
+-- a default plays no part inside a list
+pub default-free : {A : Type 0} (xs : List A) (i : ℕ) (d e : A) → i < length xs → getD xs i d ≡ getD xs i e
+default-free [] i d e h = absurd (omega arith)
+default-free (x ∷ xs) zero d e h = refl
+default-free (x ∷ xs) (suc i) d e h = default-free xs i d e (omega arith)
+
 module _ {A : Type 0} (d : A) where
   -- an array has its length
   pub filled-length : (n : ℕ) (xs : List A) → length (filled n d xs) ≡ n

@@ -1,25 +1,32 @@
 -- Demand 2, "a body is accepted exactly when some list of numbers packs to it", and demand 3 as far as bodies go: a body is read back as
 -- the truncations of the list that packs to it. Assumes nothing.
 use Prim.Native.Nat.{ℕ, zero, suc, _+_, _≤_}
-use mathlib.Core.Path.{_≡_, refl, ap, ap₂, _∙_, subst, subst⁻¹}
-use mathlib.Core.Bool.{Bool, true, false}
+use mathlib.Core.Path.{_≡_, refl, ap, ap₂, sym, _∙_, subst, subst⁻¹}
+use mathlib.Core.Bool.{Bool, true, false, not}
 use mathlib.Core.List.{List, [], _∷_, _++_}
 use mathlib.Core.Logic.{_↔_}
 use native.Mathlib.Omega.{arith}
 use native.Mathlib.Nat.{suc-inj}
 use lib.Dec.{eqb}
-use lib.ListN.{length, take, drop, take-append-drop, length-append, length-drop}
+use lib.ListN.{length, take, drop, getD, take-append-drop, length-append, length-drop}
 use lib.Seq.{take-at, drop-at, length-take-le}
 use borrow.Author.Tests.{eq-eqb, eqb-true}
 use Rattle.decimal.specs.declared.image.Image.{Image}
 use Rattle.decimal.specs.declared.number.Number.{Number}
 use Rattle.decimal.specs.Answer.{Answer, done, refused, _then_, pick}
-use Rattle.decimal.specs.Truncation.{Truncated, packedTruncation}
+use Rattle.decimal.specs.Digits.{valueOf}
+use Rattle.decimal.specs.Number.{exponentLimit, zeroNumber, normal}
+use Rattle.decimal.specs.Truncation.{Truncated, packedTruncation, numberOf}
+use Rattle.decimal.proofs.NumberLaws.{zero-normal}
+use Rattle.decimal.proofs.MagnitudeLaws.{scaled-normal}
 use Rattle.decimal.proofs.AnswerLaws.{never-done, done-same, then-done, then-both}
+use Rattle.codec.specs.Lists.{anyOf}
+use Rattle.codec.specs.Halves.{halvesOf}
 use Rattle.codec.specs.Columns.{AllChecked, columnSize, bodySize}
 use Rattle.codec.specs.Contents.{Table, readAlone}
 use Rattle.codec.specs.Packing.{columnBytes, packColumns, packList, bodyOf}
-use Rattle.codec.specs.Unpacking.{unpackColumn, unpackColumns, unpackBody, unpacking}
+use Rattle.codec.specs.Unpacking.{allDigits, allZero, signPart, digitPart, exponentPart, padPart, saidBy, breaksRules, asHalf, partsNumber}
+use Rattle.codec.specs.Unpacking.{halvesNumber, unpackColumn, unpackColumns, unpackBody, unpacking}
 use Rattle.codec.specs.Order.{Truncations, Bytes}
 use Rattle.codec.proofs.ContentsLaws.{alone-checked}
 use Rattle.codec.proofs.HalfLaws.{column-length}
@@ -31,6 +38,11 @@ use Rattle.codec.proofs.ColumnTheorem.{column-accepts, ColumnBack, colu
 pick-view : {A : Type 0} (t : Bool) (a : Answer A) (number place : ℕ) {b : A} → pick t a (refused number place) ≡ done b → (t ≡ true) × (a ≡ done b)
 pick-view true a number place h = (refl, h)
 pick-view false a number place {b} h = never-done h
+
+-- and one that refused nothing
+unless-view : {A : Type 0} (t : Bool) (a : Answer A) (number place : ℕ) {b : A} → pick t (refused number place) a ≡ done b → a ≡ done b
+unless-view true a number place h = never-done h
+unless-view false a number place h = h
 
 -- Columns.
 
@@ -324,3 +336,47 @@ contents-accepts contents {body} known = (
       (a .0, packs-contents contents (a .0) (p .1) (a .1))),
   (λ r. let b = contents-read-back contents (r .1) in (b .2, b .4)),
 )
+
+-- Numbers in normal form.
+
+-- a number that is given whatever refuses it
+half-given : (column : ℕ) (a : Answer Number) {n : Number} → asHalf column a ≡ done n → a ≡ done n
+unfolding asHalf
+half-given column (done m) h = h
+half-given column (refused number place) h = never-done h
+
+-- what a column is read as
+column-normal : (column : ℕ) (im : Image) (bytes : List ℕ) {n : Number} → unpackColumn column im bytes ≡ done n → normal n ≡ true
+unfolding unpackColumn halvesNumber partsNumber numberOf saidBy
+column-normal column im bytes h =
+    let hs = halvesOf bytes in
+    let sign = signPart (im .sign) hs in
+    let whole = valueOf (digitPart im hs) in
+    let size = valueOf (exponentPart im hs) in
+    let t = saidBy sign whole size in
+    let parts = unless-view (anyOf (not (allDigits (digitPart im hs)) ∷ (not (allDigits (exponentPart im hs)) ∷ (not (allZero (padPart im hs)) ∷ []))))
+    (partsNumber column im sign whole size) 7 column h in
+    let half = unless-view (breaksRules im sign whole size) (asHalf column (numberOf column im t)) 7 column parts in
+    scaled-normal column (t .negative) (t .whole) (t .x) (exponentLimit + im .fraction) (half-given column (numberOf column im t) half)
+
+-- and all columns
+columns-normal :
+    (column : ℕ) (ims : List Image) (bytes : List ℕ) {ns : List Number}
+    → unpackColumns column ims bytes ≡ done ns
+    → (i : ℕ)
+    → normal (getD ns i zeroNumber) ≡ true
+unfolding unpackColumns
+columns-normal column [] bytes {ns} h i =
+    let none : [] ≡ ns = done-same h in
+    ap (λ (l : List Number). normal (getD l i zeroNumber)) (sym none) ∙ zero-normal
+columns-normal column (im ∷ ims) bytes h zero =
+    let step = unpack-view column im ims bytes h in
+    ap (λ (l : List Number). normal (getD l 0 zeroNumber)) (sym (step .joined)) ∙ column-normal column im (take (columnSize im) bytes) (step .first)
+columns-normal column (im ∷ ims) bytes h (suc i) =
+    let step = unpack-view column im ims bytes h in
+    ap (λ (l : List Number). normal (getD l (suc i) zeroNumber)) (sym (step .joined))
+    ∙ columns-normal (suc column) ims (drop (columnSize im) bytes) (step .others) i
+
+-- Published: the numbers that a body is read as are in normal form.
+pub unpacked-normal : (ims : List Image) (body : List ℕ) {ns : List Number} → unpackBody ims body ≡ done ns → (i : ℕ) → normal (getD ns i zeroNumber) ≡ true
+unpacked-normal ims body h i = columns-normal 0 ims body (body-view ims body h .1) i

@@ -38,13 +38,7 @@ use Rattle.records.specs.Printing.{checkElement}
 use Rattle.records.proofs.FieldTheorem.{field-image}
 use Rattle.records.proofs.MarkLaws.{decimal-length}
 
--- a byte of a list is the same for another default
-pub getD-same : (l : List ℕ) (j d e : ℕ) → j < length l → getD l j d ≡ getD l j e
-getD-same [] j d e h = absurd (omega arith)
-getD-same (x ∷ l) zero d e h = refl
-getD-same (x ∷ l) (suc j) d e h = getD-same l j d e (omega arith)
-
--- and the default behind its end
+-- a byte behind a list's end is the default
 pub getD-behind : (l : List ℕ) (j d : ℕ) → length l ≤ j → d ≡ getD l j d
 getD-behind [] j d h = refl
 getD-behind (x ∷ l) zero d h = absurd (omega arith)

@@ -44,7 +44,7 @@ pub record TableHeld (table : Table) (r : Contents) : Type 0 where
   pub size : r .size ≡ table .size
   pub body : r .body ≡ bodySize (table .images)
 
-table-held : (table : Table) → Sound (table .images) → {r : Contents} → r ≡ contentsOf (done table) → TableHeld table r
+pub table-held : (table : Table) → Sound (table .images) → {r : Contents} → r ≡ contentsOf (done table) → TableHeld table r
 unfolding contentsOf
 table-held table s h =
     let ims : List Image = table .images in
@@ -196,7 +196,7 @@ lines-length ims s (b ∷ bs) {lines} h =
     )
 
 -- so many bodies are so many
-bodies-count : (n size : ℕ) (bytes : List ℕ) → length (bodies n size bytes) ≡ n
+pub bodies-count : (n size : ℕ) (bytes : List ℕ) → length (bodies n size bytes) ≡ n
 unfolding bodies
 bodies-count zero size bytes = refl
 bodies-count (suc n) size bytes = ap suc (bodies-count n size (drop size bytes))
@@ -204,7 +204,7 @@ bodies-count (suc n) size bytes = ap suc (bodies-count n size (drop size bytes))
 -- A file whose bodies can all be read.
 
 -- the bodies fill a file behind its contents
-file-reaches :
+pub file-reaches :
     {file : List ℕ} {table : Table} → FileRead file table → table .size + recordCount table file * bodySize (table .images) ≡ length file
 unfolding recordCount
 file-reaches {file} {table} f =
@@ -321,12 +321,12 @@ module _ (file : List ℕ) (size place : ℕ) where
     pub inside : place + size ≤ length file
     pub reaches : place + size + others * size ≡ length file
 
-  bodies-ahead : (left : ℕ) → place + left * size ≡ length file → place < length file → Ahead left
+  pub bodies-ahead : (left : ℕ) → place + left * size ≡ length file → place < length file → Ahead left
   bodies-ahead zero h l = absurd (omega arith)
   bodies-ahead (suc n) h l = record { others = n; one = refl; inside = omega arith; reaches = omega arith }
 
   -- the place is at the file's end: none is left
-  bodies-over : (left : ℕ) → 0 < size → place + left * size ≡ length file → length file ≤ place → left ≡ 0
+  pub bodies-over : (left : ℕ) → 0 < size → place + left * size ≡ length file → length file ≤ place → left ≡ 0
   bodies-over zero some h l = refl
   bodies-over (suc n) some h l = absurd (omega arith)
 
@@ -339,7 +339,7 @@ module _ (file : List ℕ) (size place : ℕ) where
   bodiesBehind n = bodies n size (drop (place + size) file)
 
   -- are those that are left
-  bodies-next : (left : ℕ) (a : Ahead left) → bodies left size (drop place file) ≡ bodyAt ∷ bodiesBehind (a .others)
+  pub bodies-next : (left : ℕ) (a : Ahead left) → bodies left size (drop place file) ≡ bodyAt ∷ bodiesBehind (a .others)
   unfolding bodies
   bodies-next left a =
       ap (λ (k : ℕ). bodies k size (drop place file)) (a .one)

@@ -1,7 +1,7 @@
 -- Where the print loops stand: the place in the line, the elements used, and the spilled ones so far. Assumes nothing.
-use Prim.Native.Nat.{ℕ, zero, suc, _+_, _-_, _*_, _<_, _≤_}
+use Prim.Native.Nat.{ℕ, _+_, _-_, _*_, _<_, _≤_}
 use mathlib.Core.Path.{_≡_, refl, ap, ap₂, sym, _∙_}
-use mathlib.Core.List.{List, [], _∷_, _++_}
+use mathlib.Core.List.{List, [], _++_}
 use mathlib.Core.Bool.{Bool, true, false}
 use native.Mathlib.Omega.{arith}
 use native.Mathlib.Nat.{zero-add}
@@ -12,7 +12,7 @@ use lib.Seq.{drop-drop, drop-length, take-at, drop-at, take-add}
 use Rattle.decimal.specs.Answer.{Answer, done, refused}
 use Rattle.decimal.specs.declared.number.Number.{Number}
 use Rattle.decimal.specs.Number.{zeroNumber}
-use Rattle.codec.proofs.ListLaws.{filled-length, filled-at}
+use Rattle.codec.proofs.ListLaws.{default-free, filled-length, filled-at}
 use Rattle.records.specs.declared.fields.Element.{Element}
 use Rattle.records.specs.declared.fields.Element.the-variants as element
 use Rattle.records.specs.Scanning.{fieldLength}
@@ -226,12 +226,6 @@ elements-count elements count = filled-length (element.Number zeroNumber) count 
 -- what stands for an element behind an array's end
 abbrev pub zeroElement : Element
 zeroElement = element.Number (record { negative = false; mantissa = 0; exponent = 0 })
-
--- a default plays no part inside a list
-default-free : (xs : List Element) (i : ℕ) (d e : Element) → i < length xs → getD xs i d ≡ getD xs i e
-default-free [] i d e h = absurd (omega arith)
-default-free (x ∷ xs) zero d e h = refl
-default-free (x ∷ xs) (suc i) d e h = default-free xs i d e (omega arith)
 
 -- an element of the array
 pub elements-at : (elements : List Element) (count i : ℕ) (d e : Element) → i < count → i < length elements

@@ -65,7 +65,7 @@ pub fn write_contents(contents: &[u8], buffer: &mut [u8]) -> WriteAnswer
 }
 
 // The contents of a file: refused as the contents is, then with 11 where a last body is incomplete.
-pub(crate) fn read_file(file: &[u8]) -> Contents
+pub fn read_file(file: &[u8]) -> Contents
     ensures { λ r. ⌜ r ≡ contentsOf (readFile (now (file .entry))) ⌝ }
 {
     let table = read_contents(file);

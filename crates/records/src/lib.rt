@@ -14,6 +14,7 @@ pub use files::AddAnswer;
 pub use files::NO_RECORD;
 pub use files::ShowAnswer;
 pub use files::add;
+pub use files::read_file;
 pub use files::show;
 pub use files::shown_body;
 pub use files::write_contents;

@@ -4,6 +4,7 @@
 // A value that a manual does not state is taken from what it prints. What a row has, the functions image_row and so on say.
 mod columns;
 mod lines;
+mod pages;
 mod shown;
 mod texts;
 
@@ -13,6 +14,7 @@ use crate::columns::image_row;
 use crate::columns::size_row;
 use crate::lines::fields_row;
 use crate::lines::line_row;
+use crate::pages::page_row;
 use crate::texts::long_row;
 use crate::texts::read_row;
 use crate::texts::text_row;
@@ -165,6 +167,33 @@ fn cut_off() {
     cut_row(b"\x01\x06##^^^^", false, 1, 0, 99);
 }
 
+// Document 02, (iii): positions found in a file.
+fn found() {
+    // Equal first columns; positions before, at, between and behind them, given with more digits than the column has.
+    page_row(
+        b"\x01\x02##\x05\x12\x12\x99",
+        b"-3 0 5 5.001 12 12.5 99 99.1 1E99",
+    );
+    page_row(b"\x01\x02##\x05\x12\x12\x99", b"1E-99 12");
+    page_row(b"\x01\x04##.#\x01\x20\x12\x50", b"1.199 1.2 1.25 12.5 13");
+    // No positions, no records.
+    page_row(b"\x01\x02##\x05\x12\x12\x99", b"");
+    page_row(b"\x01\x02##", b"1 2");
+    page_row(b"\x01\x02##", b"");
+    // Refused: a bad half behind the last position, in the second column of the second record; records that fall behind it.
+    page_row(b"\x02\x01#\x01#\x10\x10\x20\x2a", b"0");
+    page_row(b"\x01\x02##\x05\x12\x11", b"1");
+    page_row(b"\x01\x02##\x05\x12\x11", b"");
+    // Positions that fall, a first column of another kind, and which comes first.
+    page_row(b"\x01\x02##\x05\x12", b"12 11.9");
+    page_row(b"\x01\x02##\x12\x05", b"12 11.9");
+    page_row(b"\x01\x02+#", b"");
+    page_row(b"\x01\x05#^^^^\x50\x00", b"2 1");
+    // A file without its contents' end, and with a part of a body.
+    page_row(b"\x01\x02#", b"1");
+    page_row(b"\x01\x03###\x01\x20\x01", b"1");
+}
+
 // Known values printed, both marked *.
 fn known_lines() {
     line_row(b"#,###.#", b"34");
@@ -267,6 +296,7 @@ fn main() {
     later_constants();
     remarks();
     cut_off();
+    found();
     known_lines();
     printed_lines();
     earlier_lines();

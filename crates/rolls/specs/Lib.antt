@@ -1,0 +1,4 @@
+pub mod Falling
+pub mod Searching
+pub mod Finding
+pub mod KnownSearches
