@@ -3,6 +3,7 @@ pub mod ListLaws
 pub mod BufferLaws
 pub mod WrittenTheorem
 pub mod ContentsLaws
+pub mod RefusalLaws
 pub mod UnderLaws
 pub mod HalfLaws
 pub mod FitLaws

@@ -24,7 +24,7 @@ use Rattle.codec.specs.Columns.{AllChecked, none, more}
 use Rattle.codec.specs.Contents.{Table, readAlone, contentsOf, checkEach, checkImages}
 use Rattle.codec.specs.Packing.{packList, bodyOf, packUnder, packingUnder, packing}
 use Rattle.codec.specs.Unpacking.{unpackBody, unpackUnder, unpacking}
-use Rattle.codec.proofs.ListLaws.{filled-length, filled-front, filled-take, taken-from}
+use Rattle.codec.proofs.ListLaws.{default-free, filled-length, filled-at, filled-front, filled-take, taken-from}
 use Rattle.decimal.proofs.AnswerLaws.{never-done, then-done}
 use Rattle.codec.proofs.ContentsLaws.{Sound, alone-sound, ReadOk, alone-read}
 
@@ -91,6 +91,16 @@ image-count images = filled-length noImage (images .count) (images .values)
 pub image-list : (images : Images) → images .count ≤ length (images .values) → imageList images ≡ take (images .count) (images .values)
 unfolding imageList
 image-list images h = filled-take noImage (images .count) (images .values) h
+
+-- each in its place
+pub image-at :
+    (images : Images) (i : ℕ) (d : Image)
+    → i < images .count
+    → i < length (images .values)
+    → getD (images .values) i d ≡ getD (imageList images) i noImage
+unfolding imageList
+image-at images i d here long =
+    default-free (images .values) i d noImage long ∙ sym (filled-at noImage (images .count) (images .values) i noImage here)
 
 -- the code's images are those of the contents that was read
 pub told-images :

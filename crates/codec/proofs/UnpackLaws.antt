@@ -16,6 +16,7 @@ use Rattle.decimal.specs.declared.image.Sign.{Sign}
 use Rattle.decimal.specs.declared.image.Sign.the-variants.{Unsigned, Plus, Minus}
 use Rattle.decimal.specs.declared.image.Image.{Image}
 use Rattle.decimal.specs.declared.number.Number.{Number}
+use Rattle.decimal.specs.declared.refusal.Refusal.{Refusal}
 use Rattle.decimal.specs.Answer.{Answer, done, refused, _then_, pick}
 use Rattle.decimal.specs.Digits.{valueOf, Digits}
 use Rattle.decimal.specs.Image.{hashes}
@@ -31,7 +32,7 @@ use Rattle.codec.specs.declared.unpacking.Unpacked.{Unpacked}
 use Rattle.codec.specs.Lists.{filled, anyOf, maxColumns, noImage, imageList}
 use Rattle.codec.specs.Columns.{signCount, exponentCount, halfCount, padCount, columnSize, bodySize, Checked, AllChecked}
 use Rattle.codec.specs.Contents.{readAlone, checkImages}
-use Rattle.codec.proofs.ListLaws.{filled-at, filled-set}
+use Rattle.codec.proofs.ListLaws.{filled-at, filled-front, filled-set}
 use Rattle.codec.proofs.ContentsLaws.{column-halves, column-few, checked-at}
 use Rattle.codec.proofs.UnderLaws.{checks-checked, image-count, unpack-under-checked}
 use Rattle.codec.specs.Halves.{halvesOf}
@@ -652,3 +653,54 @@ module _ (ims : List Image) (body : List ℕ) where
     pub under-columns : length body ≡ bodySize ims → unpackUnder ims body ≡ unpackColumns 0 ims body
     unfolding unpackBody
     under-columns same = unpack-under-checked ims body good ∙ rw (eq-eqb (length body) (bodySize ims) same)
+
+-- What the code's answer tells of a body.
+
+-- it is refused
+pub unpack-refused :
+    (a : Answer (List Number)) {u : Unpacked} {refusal : Refusal}
+    → u ≡ unpackedOf a
+    → u .answer ≡ checks.Refused refusal
+    → a ≡ refused (refusal .number) (refusal .place)
+unfolding unpackedOf
+unpack-refused (done ns) {u} {refusal} h e =
+    let wrong : checks.Refused refusal ≡ checks.Fine = sym e ∙ ap (λ (k : Unpacked). k .answer) h in
+    let z : _≡_ {A = ℕ} 0 1 = cc in
+    absurd (omega arith)
+unpack-refused (refused x y) {u} {refusal} h e =
+    let same : checks.Refused refusal ≡ checks.Refused (record { number = x; place = y }) =
+    sym e ∙ ap (λ (k : Unpacked). k .answer) h in
+    let told : refusal ≡ record { number = x; place = y } = cc in
+    ap (λ (k : Refusal). refused (k .number) (k .place)) (sym told)
+
+-- or it is read
+pub unpack-read :
+    (a : Answer (List Number)) {u : Unpacked} → u ≡ unpackedOf a → u .answer ≡ checks.Fine → (ns : List Number) × (a ≡ done ns)
+unfolding unpackedOf
+unpack-read (done ns) h e = (ns, refl)
+unpack-read (refused x y) h e =
+    let wrong : checks.Fine ≡ checks.Refused (record { number = x; place = y }) = sym e ∙ ap (λ (k : Unpacked). k .answer) h in
+    let z : _≡_ {A = ℕ} 0 1 = cc in
+    absurd (omega arith)
+
+-- and its numbers stand at the front of the array
+pub unpack-values :
+    (a : Answer (List Number)) {u : Unpacked} {ns : List Number}
+    → u ≡ unpackedOf a
+    → a ≡ done ns
+    → length ns ≤ maxColumns
+    → take (length ns) (u .numbers .values) ≡ ns
+unfolding unpackedOf
+unpack-values a {u} {ns} h e few =
+    ap (λ (k : Unpacked). take (length ns) (k .numbers .values)) (h ∙ ap unpackedOf e) ∙ filled-front zeroNumber maxColumns ns few
+
+-- each in its place
+pub unpack-at :
+    (a : Answer (List Number)) {u : Unpacked} {ns : List Number} (i : ℕ) (d : Number)
+    → u ≡ unpackedOf a
+    → a ≡ done ns
+    → i < maxColumns
+    → getD (u .numbers .values) i d ≡ getD ns i zeroNumber
+unfolding unpackedOf
+unpack-at a {u} {ns} i d h e l =
+    ap (λ (k : Unpacked). getD (k .numbers .values) i d) (h ∙ ap unpackedOf e) ∙ filled-at zeroNumber maxColumns ns i d l

@@ -1,6 +1,7 @@
 -- The laws of layer 1, from the lowest up.
 pub mod BoolLaws
 pub mod AnswerLaws
+pub mod RefusalLaws
 pub mod PowerLaws
 pub mod DigitLaws
 pub mod PackedLaws

@@ -11,7 +11,6 @@ use Rattle.decimal.specs.declared.image.Image.{Image}
 use Rattle.decimal.specs.declared.number.Number.{Number}
 use Rattle.decimal.specs.declared.refusal.Refusal.{Refusal}
 use Rattle.decimal.specs.Answer.{Answer, done, refused, _then_, given}
-use Rattle.decimal.specs.Number.{zeroNumber}
 use Rattle.codec.specs.declared.contents.Contents.{Contents}
 use Rattle.decimal.specs.declared.refusal.CheckAnswer.the-variants as checks
 use Rattle.codec.specs.declared.unpacking.Unpacked.{Unpacked}
@@ -25,6 +24,7 @@ use Rattle.decimal.proofs.AnswerLaws.{then-done}
 use Rattle.codec.proofs.ContentsLaws.{told-read, told-refused, Sound, contents-sound}
 use Rattle.codec.proofs.ListLaws.{filled-front}
 use Rattle.codec.proofs.UnderLaws.{checked-checks, told-images, unpack-under-checked}
+use Rattle.codec.proofs.UnpackLaws.{unpack-values}
 use Rattle.codec.proofs.LineLaws.{texts-count, texts-length, unpacked-count, unpacked-texts}
 use Rattle.codec.proofs.FrontLaws.{contents-size}
 use Rattle.records.specs.Files.{readFile, recordCount, bodies, bodiesIn}
@@ -79,46 +79,6 @@ part-unpacked {table} {r} t file place h =
     h
     ∙ ap unpackedOf (body-unpacked t (take (r .body) (drop place file)))
     ∙ ap (λ (k : ℕ). unpackedOf (unpackBody (table .images) (take k (drop place file)))) (t .body)
-
--- What the code's answer tells of a body.
-
--- it is refused
-pub unpack-refused :
-    (a : Answer (List Number)) {u : Unpacked} {refusal : Refusal}
-    → u ≡ unpackedOf a
-    → u .answer ≡ checks.Refused refusal
-    → a ≡ refused (refusal .number) (refusal .place)
-unfolding unpackedOf
-unpack-refused (done ns) {u} {refusal} h e =
-    let wrong : checks.Refused refusal ≡ checks.Fine = sym e ∙ ap (λ (k : Unpacked). k .answer) h in
-    let z : _≡_ {A = ℕ} 0 1 = cc in
-    absurd (omega arith)
-unpack-refused (refused x y) {u} {refusal} h e =
-    let same : checks.Refused refusal ≡ checks.Refused (record { number = x; place = y }) =
-    sym e ∙ ap (λ (k : Unpacked). k .answer) h in
-    let told : refusal ≡ record { number = x; place = y } = cc in
-    ap (λ (k : Refusal). refused (k .number) (k .place)) (sym told)
-
--- or it is read
-pub unpack-read :
-    (a : Answer (List Number)) {u : Unpacked} → u ≡ unpackedOf a → u .answer ≡ checks.Fine → (ns : List Number) × (a ≡ done ns)
-unfolding unpackedOf
-unpack-read (done ns) h e = (ns, refl)
-unpack-read (refused x y) h e =
-    let wrong : checks.Fine ≡ checks.Refused (record { number = x; place = y }) = sym e ∙ ap (λ (k : Unpacked). k .answer) h in
-    let z : _≡_ {A = ℕ} 0 1 = cc in
-    absurd (omega arith)
-
--- and its numbers stand at the front of the array
-unpack-values :
-    (a : Answer (List Number)) {u : Unpacked} {ns : List Number}
-    → u ≡ unpackedOf a
-    → a ≡ done ns
-    → length ns ≤ maxColumns
-    → take (length ns) (u .numbers .values) ≡ ns
-unfolding unpackedOf
-unpack-values a {u} {ns} h e few =
-    ap (λ (k : Unpacked). take (length ns) (k .numbers .values)) (h ∙ ap unpackedOf e) ∙ filled-front zeroNumber maxColumns ns few
 
 -- The lines of records, one body after the other.
 
@@ -196,10 +156,15 @@ lines-length ims s (b ∷ bs) {lines} h =
     )
 
 -- so many bodies are so many
-pub bodies-count : (n size : ℕ) (bytes : List ℕ) → length (bodies n size bytes) ≡ n
+bodies-count : (n size : ℕ) (bytes : List ℕ) → length (bodies n size bytes) ≡ n
 unfolding bodies
 bodies-count zero size bytes = refl
 bodies-count (suc n) size bytes = ap suc (bodies-count n size (drop size bytes))
+
+-- a file has a body for each record
+pub records-count : (table : Table) (file : List ℕ) → length (bodiesIn table file) ≡ recordCount table file
+unfolding bodiesIn
+records-count table file = bodies-count (recordCount table file) (bodySize (table .images)) (drop (table .size) file)
 
 -- A file whose bodies can all be read.
 
@@ -253,13 +218,9 @@ file-listed file {table} h =
 -- its lines are as long as the contents without its first byte, each
 pub listed-length :
     {file : List ℕ} {table : Table} → FileListed file table → length (linesOf file) ≡ recordCount table file * (table .size - 1)
-unfolding bodiesIn
 listed-length {file} {table} l =
-    let n : ℕ = recordCount table file in
-    let size : ℕ = bodySize (table .images) in
     let line : lineLength (table .images) ≡ table .size - 1 = omega (arith, l .size) in
-    lines-length (table .images) (l .sound) (bodies n size (drop (table .size) file)) (l .lines)
-    ∙ ap₂ (λ (x y : ℕ). x * y) (bodies-count n size (drop (table .size) file)) line
+    lines-length (table .images) (l .sound) (bodiesIn table file) (l .lines) ∙ ap₂ (λ (x y : ℕ). x * y) (records-count table file) line
 
 -- What the code has of a file.
 
@@ -348,6 +309,16 @@ module _ (file : List ℕ) (size place : ℕ) where
 -- the bodies of a file from a place on, so many of them
 abbrev pub bodiesLeft : List ℕ → Table → ℕ → ℕ → List (List ℕ)
 bodiesLeft file table place left = bodies left (bodySize (table .images)) (drop place file)
+
+-- all of them
+pub bodies-all : (file : List ℕ) (table : Table) → bodiesIn table file ≡ bodiesLeft file table (table .size) (recordCount table file)
+unfolding bodiesIn
+bodies-all file table = refl
+
+-- none of them
+pub bodies-none : (file : List ℕ) (table : Table) (place : ℕ) → bodiesLeft file table place 0 ≡ []
+unfolding bodies
+bodies-none file table place = refl
 
 -- Checking the bodies: whether those from the place on can be read says whether all can.
 pub record Checking (file : List ℕ) (table : Table) (place : ℕ) : Type 0 where

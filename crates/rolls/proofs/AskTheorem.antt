@@ -7,7 +7,7 @@ use mathlib.Core.List.{List, [], _∷_}
 use mathlib.Core.Logic.{_↔_}
 use native.Mathlib.Omega.{arith}
 use lib.Dec.{leb}
-use lib.ListN.{length, drop, getD}
+use lib.ListN.{length, getD}
 use borrow.Author.Tests.{leb-true}
 use Rattle.decimal.specs.declared.image.Sign.{Sign}
 use Rattle.decimal.specs.declared.image.Sign.the-variants.{Unsigned, Plus, Minus}
@@ -17,7 +17,6 @@ use Rattle.decimal.specs.Answer.{Answer, done, refused, _then_, pick}
 use Rattle.decimal.specs.Number.{zeroNumber, normal}
 use Rattle.decimal.proofs.AnswerLaws.{never-done, done-same, then-done, then-last}
 use Rattle.decimal.proofs.NumberLaws.{check-normal}
-use Rattle.codec.specs.Columns.{bodySize}
 use Rattle.codec.specs.Contents.{Table}
 use Rattle.codec.specs.Lists.{noImage}
 use Rattle.codec.specs.Order.{UnsignedFixed}
@@ -25,7 +24,7 @@ use Rattle.codec.specs.Unpacking.{unpackBody}
 use Rattle.codec.proofs.ListLaws.{filled-at}
 use Rattle.records.specs.Files.{readFile, recordCount, bodiesIn, shownPart}
 use Rattle.records.proofs.FileTheorem.{record-at}
-use Rattle.records.proofs.LinesLaws.{bodies-count}
+use Rattle.records.proofs.LinesLaws.{records-count}
 use Rattle.rolls.specs.Falling.{fall}
 use Rattle.rolls.specs.Searching.{maxPositions, keysOf, keysIn, Search, found, checkCount, checkNumbers, isUnsignedFixed, checkKind, checkPage, searching, foundOf}
 use Rattle.rolls.specs.Finding.{Finds, HasKey, Askable}
@@ -78,19 +77,14 @@ keys-each ims (b ∷ bs) h (suc r) l =
     subst (λ (ks : List Number). HasKey ims (getD bs r []) (getD ks (suc r) zeroNumber)) (v .joined) (keys-each ims bs (v .rest) r (omega arith))
 
 module _ (table : Table) (file : List ℕ) {keys : List Number} (h : keysIn table file ≡ done keys) where
-  -- so many bodies as records
-  records-count : length (bodiesIn table file) ≡ recordCount table file
-  unfolding bodiesIn
-  records-count = bodies-count (recordCount table file) (bodySize (table .images)) (drop (table .size) file)
-
   keys-records : length keys ≡ recordCount table file
-  keys-records = keys-count (table .images) (bodiesIn table file) h ∙ records-count
+  keys-records = keys-count (table .images) (bodiesIn table file) h ∙ records-count table file
 
   keys-shown :
       readFile file ≡ done table → (r : ℕ) → r < recordCount table file → HasKey (table .images) (shownPart file r) (getD keys r zeroNumber)
   keys-shown reads r l =
       subst (λ (body : List ℕ). HasKey (table .images) body (getD keys r zeroNumber)) (sym (record-at file r reads l))
-      (keys-each (table .images) (bodiesIn table file) h r (omega (arith, records-count)))
+      (keys-each (table .images) (bodiesIn table file) h r (omega (arith, records-count table file)))
 
 -- the kind of an image
 kind-true : (im : Image) → isUnsignedFixed im ≡ true → UnsignedFixed im

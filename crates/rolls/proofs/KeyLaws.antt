@@ -2,7 +2,6 @@
 use Prim.Native.Nat.{ℕ, _+_, _*_, _<_, _≤_}
 use mathlib.Core.Path.{_≡_, refl, ap, sym, subst, _∙_}
 use mathlib.Core.List.{List, [], _∷_, _++_, append-assoc, append-nil}
-use native.Mathlib.Omega.{arith}
 use lib.ListN.{length, getD}
 use Rattle.decimal.specs.declared.image.Image.{Image}
 use Rattle.decimal.specs.declared.number.Number.{Number}
@@ -10,14 +9,11 @@ use Rattle.decimal.specs.Answer.{Answer, done, refused, _then_}
 use Rattle.decimal.specs.Number.{zeroNumber}
 use Rattle.decimal.proofs.AnswerLaws.{then-same}
 use Rattle.codec.specs.declared.contents.Contents.{Contents}
-use Rattle.codec.specs.declared.unpacking.Unpacked.{Unpacked}
 use Rattle.codec.specs.Columns.{bodySize}
 use Rattle.codec.specs.Contents.{Table}
-use Rattle.codec.specs.Lists.{maxColumns}
-use Rattle.codec.specs.Unpacking.{unpackBody, unpackedOf}
+use Rattle.codec.specs.Unpacking.{unpackBody}
 use Rattle.codec.proofs.ContentsLaws.{contents-sound}
-use Rattle.codec.proofs.ListLaws.{filled-at}
-use Rattle.records.specs.Files.{readFile, recordCount, bodies, bodiesIn}
+use Rattle.records.specs.Files.{readFile, recordCount}
 use Rattle.records.proofs.FileLaws.{file-told}
 use Rattle.records.proofs.LinesLaws.{
   TableHeld,
@@ -27,6 +23,8 @@ use Rattle.records.proofs.LinesLaws.{
   bodies-ahead,
   bodies-over,
   bodies-next,
+  bodies-all,
+  bodies-none,
   bodyAt,
   bodiesBehind,
   bodiesLeft,
@@ -68,16 +66,6 @@ unfolding _then_
 then-joined (done keys) k ks = ap {B = Answer (List Number)} done (sym (append-assoc ks (k ∷ []) keys))
 then-joined (refused x y) k ks = refl
 
--- the first number of a body that is read, as the code has it
-pub key-held :
-    (a : Answer (List Number)) {u : Unpacked} {ns : List Number} (d : Number)
-    → u ≡ unpackedOf a
-    → a ≡ done ns
-    → getD (u .numbers .values) 0 d ≡ getD ns 0 zeroNumber
-unfolding unpackedOf
-key-held a {u} {ns} d h e =
-    ap (λ (k : Unpacked). getD (k .numbers .values) 0 d) (h ∙ ap unpackedOf e) ∙ filled-at zeroNumber maxColumns ns 0 d (omega arith)
-
 -- Reading all bodies: the keys that were read, and those of the bodies from the place on, are all.
 pub record Keying (file : List ℕ) (table : Table) (place : ℕ) (ks : List Number) : Type 0 where
   pub left : ℕ
@@ -86,10 +74,15 @@ pub record Keying (file : List ℕ) (table : Table) (place : ℕ) (ks : List Num
 
 -- at the first body
 pub keying-starts : (file : List ℕ) {table : Table} → readFile file ≡ done table → {place : ℕ} → place ≡ table .size → Keying file table place []
-unfolding bodiesIn
 keying-starts file {table} h e =
     subst (λ (k : ℕ). Keying file table k []) (sym e)
-    (record { left = recordCount table file; reaches = file-reaches (file-told file h); rest = sym (then-same (keysIn table file)) })
+    (record {
+      left = recordCount table file;
+      reaches = file-reaches (file-told file h);
+      rest =
+          sym (then-same (keysIn table file))
+          ∙ ap (λ (bs : List (List ℕ)). keysOf (table .images) bs then λ keys. done keys) (bodies-all file table);
+    })
 
 module _ {file : List ℕ} {table : Table} {place : ℕ} {ks : List Number} (c : Keying file table place ks) where
   -- the bytes of a body
@@ -98,11 +91,12 @@ module _ {file : List ℕ} {table : Table} {place : ℕ} {ks : List Number} (c :
 
   -- at the end
   pub keying-ends : 0 < size → length file ≤ place → keysIn table file ≡ done ks
-  unfolding keysOf bodies _then_
+  unfolding keysOf _then_
   keying-ends some l =
       let over = bodies-over file size place (c .left) some (c .reaches) l in
       c .rest
-      ∙ ap (λ (k : ℕ). keysOf (table .images) (bodiesLeft file table place k) then λ keys. done (ks ++ keys)) over
+      ∙ ap (λ (bs : List (List ℕ)). keysOf (table .images) bs then λ keys. done (ks ++ keys))
+      (ap (bodiesLeft file table place) over ∙ bodies-none file table place)
       ∙ ap {B = Answer (List Number)} done (append-nil ks)
 
   module _ (l : place < length file) where

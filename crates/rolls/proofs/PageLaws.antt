@@ -15,8 +15,7 @@ use Rattle.decimal.specs.Answer.{Answer, done, refused, _then_}
 use Rattle.decimal.specs.Number.{zeroNumber, normal, checkNumber}
 use Rattle.decimal.proofs.NumberLaws.{check-normal, check-abnormal}
 use Rattle.decimal.proofs.AnswerLaws.{never, then-done}
-use Rattle.codec.specs.declared.lists.Images.{Images}
-use Rattle.codec.specs.Lists.{noImage, imageList}
+use Rattle.codec.specs.Lists.{noImage}
 use Rattle.codec.proofs.ListLaws.{default-free, filled-length, filled-at}
 use Rattle.rolls.specs.declared.searching.Positions.{Positions}
 use Rattle.rolls.specs.Falling.{atMost, fall}
@@ -162,10 +161,3 @@ module _ (ims : List Image) (ps : List Number) (falls : Bool) where
       pub page-fine : fall ps ≡ false → falls ≡ false → checkPage ims ps falls ≡ done tt
       unfolding checkPage checkKind refuseWhere _then_
       page-fine f r = rw (normals, kind, f, r)
-
--- the first column's image
-pub image-first :
-    (images : Images) (d : Image) → 0 < images .count → 0 < length (images .values) → getD (images .values) 0 d ≡ getD (imageList images) 0 noImage
-unfolding imageList
-image-first images d some long =
-    default-free (images .values) 0 d noImage long ∙ sym (filled-at noImage (images .count) (images .values) 0 noImage some)

@@ -6,13 +6,12 @@ use native.Mathlib.Omega.{arith}
 use borrow.Author.Needs.{needs}
 use lib.ListN.{length}
 use Rattle.codec.specs.Contents.{contentsOf}
+use Rattle.codec.proofs.UnpackLaws.{unpack-refused, unpack-read}
 use Rattle.records.proofs.LinesLaws.{
   FileHeld,
   file-held,
   file-refused,
   part-unpacked,
-  unpack-refused,
-  unpack-read,
   Checking,
   checking-starts,
   checking-inside,

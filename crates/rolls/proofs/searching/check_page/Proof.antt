@@ -7,8 +7,9 @@ use borrow.Author.Needs.{needs}
 use borrow.Author.Tests.{not-true, not-false}
 use Rattle.decimal.specs.Answer.{done, checkMeaning}
 use Rattle.codec.specs.Lists.{maxColumns, noImage, imageList}
+use Rattle.codec.proofs.UnderLaws.{image-at}
 use Rattle.rolls.specs.Searching.{positionList, isUnsignedFixed, checkNumbers}
-use Rattle.rolls.proofs.PageLaws.{page-abnormal, page-kind, page-positions, page-records, page-fine, image-first}
+use Rattle.rolls.proofs.PageLaws.{page-abnormal, page-kind, page-positions, page-records, page-fine}
 use Rattle.rolls.proofs.searching.check_page.Statement.{statement}
 use Rattle.rolls.proofs.searching.check_page.Tie as tie
 
@@ -23,7 +24,7 @@ kind :
 kind u =
     let s = u .before .before .before .before .before in
     let many : length (s .args .t1 .values) ≡ maxColumns = sym (length-map (s .args .t1 .values) _) ∙ s .good .0 .1 .1 .0 .1 .0 .1 in
-    u .is-unsigned-fixed .ensures ∙ ap isUnsignedFixed (image-first (s .args .t1) noImage (s .pre .0) (omega arith))
+    u .is-unsigned-fixed .ensures ∙ ap isUnsignedFixed (image-at (s .args .t1) 0 noImage (s .pre .0) (omega arith))
 
 -- it is unsigned fixed point
 fixed :

@@ -17,10 +17,11 @@ use Rattle.codec.specs.Columns.{bodySize}
 use Rattle.codec.specs.Contents.{Table}
 use Rattle.codec.specs.Lists.{filled, imageList}
 use Rattle.codec.specs.Unpacking.{unpackBody, unpackUnder, unpackedOf}
-use Rattle.records.proofs.LinesLaws.{bodyAt, part-unpacked, unpack-refused, unpack-read}
+use Rattle.codec.proofs.UnpackLaws.{unpack-refused, unpack-read, unpack-at}
+use Rattle.records.proofs.LinesLaws.{bodyAt, part-unpacked}
 use Rattle.rolls.specs.Falling.{atMost}
 use Rattle.rolls.specs.Searching.{maxPositions, positionList, checkNumbers, walk, HasContents}
-use Rattle.rolls.proofs.KeyLaws.{contents-held, contents-some, key-held, keying-inside, keying-stops, keying-ends}
+use Rattle.rolls.proofs.KeyLaws.{contents-held, contents-some, keying-inside, keying-stops, keying-ends}
 use Rattle.rolls.proofs.FallLaws.{fell, not-fell, fallen-ends}
 use Rattle.rolls.proofs.WalkLaws.{Walking, walking-reads, walking-turns, walking-passes, walking-over, walking-counted, Filling, filling-starts, filling-turns, filling-ends}
 use Rattle.rolls.proofs.PageLaws.{nothing, positions-count, position-at, all-normal}
@@ -131,7 +132,7 @@ read n h =
     let t = n .before .before in
     let u = t .before .before in
     let r = unpack-read _ (unpacked u h) (t .enum-told2 .given .1) in
-    record { numbers = r .0; reads = r .1; key = key-held _ nothing (unpacked u h) (r .1) }
+    record { numbers = r .0; reads = r .1; key = unpack-at _ 0 nothing (unpacked u h) (r .1) (omega arith) }
 
 loop-holds : tie.Need-loop-holds Inv-settle μ-settle Inv-loop μ-loop Inv-loop2 μ-loop2
 unfolding filled
