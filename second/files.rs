@@ -73,6 +73,13 @@ pub fn contents_of(images: &[Vec<u8>]) -> Vec<u8> {
     bytes
 }
 
+/// Gives a mantissa whose digits are drawn from two: equal ones, zeros and nines in runs and by turns.
+fn two_digits(random: &mut Random) -> u128 {
+    let first = 1 + random.below(9) as u128;
+    let other = if random.below(2) == 0 { 0 } else { random.below(10) as u128 };
+    (0..12).fold(first, |m, _| 10 * m + if random.below(2) == 0 { first } else { other })
+}
+
 /// Gives a number that packs under the image, or zero.
 pub fn number(random: &mut Random, image: &Image) -> Number {
     let whole = image.whole as i128;
@@ -82,7 +89,10 @@ pub fn number(random: &mut Random, image: &Image) -> Number {
         (true, Some(_)) => (-99, 99),
     };
     let digits = 1 + random.below(13) as u32;
-    let m = (1 + random.next() as u128 % 9) * 10u128.pow(12) + random.next() as u128 % 10u128.pow(12);
+    let m = match random.below(4) {
+        0 => two_digits(random),
+        _ => (1 + random.next() as u128 % 9) * 10u128.pow(12) + random.next() as u128 % 10u128.pow(12),
+    };
     let m = m / 10u128.pow(13 - digits) * 10u128.pow(13 - digits);
     let e = if random.below(3) == 0 { last } else { random.from_to(first.min(last), last) };
     let number = Number { negative: random.below(2) == 0, m, e };

@@ -281,6 +281,28 @@ fn page_rows() -> String {
     rows.iter().map(|&(file, text)| page_row(file, text)).collect()
 }
 
+/// Gives the rows of document 02, (iv): mantissas split into digits.
+fn digit_rows() -> String {
+    let all = "#############";
+    let rows = [
+        (all, 9999999999999, 0),
+        (all, 7777777777777, 0),
+        (all, 1111111111111, 0),
+        (all, 8421842184218, 0),
+        (all, 8000000000000, 0),
+        (all, 1000000000000, 0),
+        (all, 1000000000001, 0),
+        (all, 9090909090909, 0),
+        (all, 1234567890123, 0),
+        (all, 9876543210987, 0),
+        ("#.############", 5678901234567, -12),
+        ("+######.#######", -6543210987654, -7),
+        ("####", 1234567890123, -9),
+        ("#########^^^^", 3456789012345, -4),
+    ];
+    rows.iter().map(|&(image, whole, scale)| image_row(image, whole, scale)).collect()
+}
+
 /// Gives the rows of printed lines: known values, then sources 000, 001 and 004.
 fn line_rows() -> String {
     let rows = [
@@ -333,6 +355,6 @@ fn fields_rows() -> String {
 
 /// Prints all rows.
 fn main() -> std::io::Result<()> {
-    let rows = [image_rows(), size_rows(), body_rows(), text_rows(), read_rows(), cut_rows(), page_rows(), line_rows(), fields_rows()];
+    let rows = [image_rows(), size_rows(), body_rows(), text_rows(), read_rows(), cut_rows(), page_rows(), digit_rows(), line_rows(), fields_rows()];
     std::io::stdout().write_all(rows.concat().as_bytes())
 }

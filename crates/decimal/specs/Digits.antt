@@ -1,10 +1,13 @@
 -- Decimal digits of whole numbers, and the order of lists of bytes.
-use Prim.Native.Nat.{ℕ, suc, zero, _+_, _*_, _/_, _%_, _^_, _<_}
+use Prim.Native.Nat.{ℕ, suc, zero, _+_, _*_, _/_, _%_, _^_, _<_, _≤_}
 use mathlib.Core.List.{List, [], _∷_}
+use mathlib.Core.Logic.{_⊎_}
+use mathlib.Core.Path.{_≡_}
 use mathlib.Core.Bool.{Bool, true, false}
 use lib.ListN.{length}
 use lib.Dec.{ltb, eqb}
 use Rattle.decimal.specs.Answer.{pick}
+use Rattle.decimal.specs.declared.digits.Taken.{Taken}
 
 -- the digit count of a mantissa: document 01's 13
 abbrev pub precision : ℕ
@@ -18,6 +21,24 @@ powerOfTen e = pick (ltb e 20) (10 ^ e) 0
 unfoldable pub digitsOf : ℕ → ℕ → List ℕ
 digitsOf zero k = []
 digitsOf (suc n) k = k / 10 ^ n % 10 ∷ digitsOf n k
+
+-- how many subtractions may be made for a digit: document 02's nine
+abbrev pub subtractionLimit : ℕ
+subtractionLimit = 9
+
+-- one subtraction of a multiple of a power of ten from what is left: the multiple is taken off and added to the digit where it is no larger
+-- than what is left, else both stay; either way one subtraction more was made
+pub record Subtracts (power times : ℕ) (before after : Taken) : Type 0 where
+  pub counted : after .subtractions ≡ before .subtractions + 1
+  pub result : ((after .rest + times * power ≡ before .rest) × (after .digit ≡ before .digit + times))
+      ⊎ ((before .rest < times * power) × (after .rest ≡ before .rest) × (after .digit ≡ before .digit))
+
+-- the first digit taken off a whole number (document 02, (iv)): the digit times the power, and the rest, are the whole number; the rest is
+-- below the power; and so many subtractions were made, at most nine
+pub record TakesDigit (power whole : ℕ) (taken : Taken) : Type 0 where
+  pub sum : taken .digit * power + taken .rest ≡ whole
+  pub below : taken .rest < power
+  pub few : taken .subtractions ≤ subtractionLimit
 
 -- the whole number that digits stand for
 unfoldable pub valueOf : List ℕ → ℕ

@@ -194,6 +194,28 @@ fn found() {
     page_row(b"\x01\x03###\x01\x20\x01", b"1");
 }
 
+// Document 02, (iv): mantissas split into digits.
+fn split() {
+    // Nines, sevens and ones; digits that are one multiple of their power.
+    image_row(b"\x01\x0d#############", false, 9999999999999, 0, 0);
+    image_row(b"\x01\x0d#############", false, 7777777777777, 0, 0);
+    image_row(b"\x01\x0d#############", false, 1111111111111, 0, 0);
+    image_row(b"\x01\x0d#############", false, 8421842184218, 0, 0);
+    // Nothing left behind the first digit, and zeros inside.
+    image_row(b"\x01\x0d#############", false, 8000000000000, 0, 0);
+    image_row(b"\x01\x0d#############", false, 1000000000000, 0, 0);
+    image_row(b"\x01\x0d#############", false, 1000000000001, 0, 0);
+    image_row(b"\x01\x0d#############", false, 9090909090909, 0, 0);
+    // Every digit, rising and falling.
+    image_row(b"\x01\x0d#############", false, 1234567890123, 0, 0);
+    image_row(b"\x01\x0d#############", false, 9876543210987, 0, 0);
+    // With a point, with a sign, with digits that are cut off, and exponential.
+    image_row(b"\x01\x0e#.############", false, 5678901234567, 0, 12);
+    image_row(b"\x01\x0f+######.#######", true, 6543210987654, 0, 7);
+    image_row(b"\x01\x04####", false, 1234567890123, 0, 9);
+    image_row(b"\x01\x0d#########^^^^", false, 3456789012345, 0, 4);
+}
+
 // Known values printed, both marked *.
 fn known_lines() {
     line_row(b"#,###.#", b"34");
@@ -297,6 +319,7 @@ fn main() {
     remarks();
     cut_off();
     found();
+    split();
     known_lines();
     printed_lines();
     earlier_lines();
