@@ -8,7 +8,7 @@ use lib.Arith.{digits-lt, digits-div, digits-mod}
 use lib.Pow.{pow-add}
 use lib.ListN.{length, getD, length-append}
 use Rattle.decimal.specs.Digits.{digitsOf, zeros, packedOf, halvesIn, Digits, Halves}
-use Rattle.decimal.proofs.DigitLaws.{digits-length, digits-are-digits, digits-split, digits-padded}
+use Rattle.decimal.proofs.DigitLaws.{digits-length, digits-are-digits, digits-split}
 
 -- the weight of the half before n others
 weight-suc : (n : ℕ) → 2 ^ (4 * suc n) ≡ 2 ^ 4 * 2 ^ (4 * n)
@@ -69,11 +69,6 @@ packed-zeros (suc n) hs = omega (arith, packed-zeros n hs, zero-mul (2 ^ (4 * le
 pub digit-halves : (n k : ℕ) → Halves (digitsOf n k)
 digit-halves n k = digits-are-halves (digitsOf n k) (digits-are-digits n k)
 
--- one more digit, put before the others
-pub packed-more : (n k : ℕ) → packedOf (digitsOf (suc n) k) ≡ k / 10 ^ n % 10 * 2 ^ (4 * n) + packedOf (digitsOf n k)
-unfolding digitsOf packedOf
-packed-more n k = rw (digits-length n k)
-
 -- n digits stay below the weight of the half before them
 pub packed-digits-below : (n k : ℕ) → packedOf (digitsOf n k) < 2 ^ (4 * n)
 packed-digits-below n k = rw digits-length at (packed-below (digitsOf n k) (digit-halves n k))
@@ -82,12 +77,6 @@ packed-digits-below n k = rw digits-length at (packed-below (digitsOf n k) (digi
 pub packed-split : (n j k : ℕ) → packedOf (digitsOf (n + j) k) ≡ packedOf (digitsOf n (k / 10 ^ j)) * 2 ^ (4 * j) + packedOf (digitsOf j k)
 packed-split n j k =
     rw (digits-split n j k, packed-append (digitsOf n (k / 10 ^ j)) (digitsOf j k), digits-length j k)
-
--- the digits without the last j, behind j zeros
-pub packed-dropped : (n j k : ℕ) → k / 10 ^ j < 10 ^ n → packedOf (digitsOf (n + j) k) / 2 ^ (4 * j) ≡ packedOf (digitsOf (j + n) (k / 10 ^ j))
-packed-dropped n j k small =
-    rw (packed-split n j k, digits-div (packedOf (digitsOf n (k / 10 ^ j))) (packed-digits-below j k), digits-padded j n (k / 10 ^ j) small)
-    (sym (packed-zeros j (digitsOf n (k / 10 ^ j))))
 
 -- half bytes behind a higher part of a number are taken out as they are
 halves-behind : (a : ℕ) (hs : List ℕ) → Halves hs → halvesIn (length hs) (a * 2 ^ (4 * length hs) + packedOf hs) ≡ hs

@@ -1,6 +1,7 @@
 // Splitting a mantissa into its decimal digits, without dividing (document 02, (iv)).
 ghost use mathlib.Core.Path.{_≡_};
 ghost use Prim.Native.Nat.{_+_, _*_, _^_, _<_, _≤_};
+ghost use lib.ListN.{take};
 ghost use Rattle.decimal.specs.Digits.{precision, digitsOf, packedOf, subtractionLimit, Subtracts, TakesDigit};
 use crate::powers::power_of_ten;
 
@@ -57,19 +58,19 @@ fn take_digit(whole: u64, power: u64) -> Taken
     )
 }
 
-// The digits of a mantissa as half bytes, the first digit highest. Where nothing is left, the other digits are zeros.
-pub(crate) fn packed_digits(mantissa: u64) -> u64
-    requires { ⌜ mantissa < 10 ^ precision ⌝ }
-    ensures { λ r. ⌜ r ≡ packedOf (digitsOf precision mantissa) ⌝ }
+// The first count digits of a mantissa as half bytes, the first digit highest.
+pub(crate) fn packed_digits(mantissa: u64, count: usize) -> u64
+    requires { ⌜ (mantissa < 10 ^ precision) × (count ≤ precision) ⌝ }
+    ensures { λ r. ⌜ r ≡ packedOf (take count (digitsOf precision mantissa)) ⌝ }
 {
     let mut packed: u64 = 0;
     let mut rest = mantissa;
     let mut done = 0;
-    while 0 < rest {
+    while done < count {
         done += 1;
         let left = PRECISION - done;
         let taken = take_digit(rest, power_of_ten(left));
-        packed += taken.digit << (4 * left);
+        packed = (packed << 4) | taken.digit;
         rest = taken.rest;
     }
     packed

@@ -203,7 +203,7 @@ fn kept_halves(mantissa: u64, count: usize) -> u64
     requires { ⌜ (mantissa < 10 ^ precision) × (count ≤ precision) ⌝ }
     ensures { λ r. ⌜ r ≡ packedOf (digitsOf precision (mantissa / 10 ^ (precision - count))) ⌝ }
 {
-    packed_digits(mantissa) >> (4 * (PRECISION - count))
+    packed_digits(mantissa, count)
 }
 
 // A number truncated under an image: the sign and the digits kept and the stored exponent; refused as fit is.
