@@ -33,9 +33,15 @@ pub record Subtracts (power times : ℕ) (before after : Taken) : Type 0 where
   pub result : ((after .rest + times * power ≡ before .rest) × (after .digit ≡ before .digit + times))
       ⊎ ((before .rest < times * power) × (after .rest ≡ before .rest) × (after .digit ≡ before .digit))
 
--- the first digit taken off a whole number (document 02, (iv)): the digit times the power, and the rest, are the whole number; the rest is
--- below the power; and so many subtractions were made, at most nine
+-- what subtractions of multiples of a power, one after the other, make of a whole number: at first no digit, all of it left and no subtraction
+pub data Subtractions (power whole : ℕ) : Taken → Type 0 where
+  no-subtraction : Subtractions power whole (record { digit = 0; rest = whole; subtractions = 0 })
+  one-more : {times : ℕ} {before after : Taken} → Subtractions power whole before → Subtracts power times before after → Subtractions power whole after
+
+-- the first digit taken off a whole number (document 02, (iv)): by subtractions, and the count is of all of them; the digit times the power,
+-- and the rest, are the whole number; the rest is below the power; and the subtractions are at most nine
 pub record TakesDigit (power whole : ℕ) (taken : Taken) : Type 0 where
+  pub made : Subtractions power whole taken
   pub sum : taken .digit * power + taken .rest ≡ whole
   pub below : taken .rest < power
   pub few : taken .subtractions ≤ subtractionLimit

@@ -6,7 +6,7 @@ use Prim.Native.Nat.{ℕ, _+_, _*_, _^_, _<_, _≤_}
 use native.Mathlib.Nat.{add-mul, zero-mul}
 use native.Mathlib.Omega.{arith}
 use borrow.Author.Needs.{needs}
-use Rattle.decimal.specs.Digits.{subtractionLimit, Subtracts, TakesDigit}
+use Rattle.decimal.specs.Digits.{subtractionLimit, Subtracts, Subtractions, no-subtraction, one-more, TakesDigit}
 use Rattle.decimal.specs.declared.digits.Taken.{Taken}
 use Rattle.decimal.proofs.digits.take_digit.Statement.{statement}
 use Rattle.decimal.proofs.digits.take_digit.Tie as tie
@@ -16,6 +16,7 @@ use Rattle.decimal.proofs.digits.subtract.Reads as subtract-reads
 
 -- a digit so far: it and the rest make the whole number, the rest is below so many times the power, and so many subtractions were made
 record SoFar (power whole top count : ℕ) (taken : Taken) : Type 0 where
+  made : Subtractions power whole taken
   sum : taken .digit * power + taken .rest ≡ whole
   below : taken .rest < top * power
   small : taken .digit + top ≤ 16
@@ -32,16 +33,16 @@ next {power} {whole} {times} {count} {before} {after} s t =
     ⊎-elim
     (λ off.
     let more = ap (λ (d : ℕ). d * power) (off .1) ∙ add-mul (before .digit) times power in
-    record { sum = omega arith; below = omega arith; small = omega arith; counted = omega arith })
+    record { made = one-more (s .made) t; sum = omega arith; below = omega arith; small = omega arith; counted = omega arith })
     (λ stays.
     let same = ap (λ (d : ℕ). d * power) (stays .2) in
-    record { sum = omega arith; below = omega arith; small = omega arith; counted = omega arith })
+    record { made = one-more (s .made) t; sum = omega arith; below = omega arith; small = omega arith; counted = omega arith })
     (t .result)
 
 -- the first one, of eight times the power
 first : {power whole : ℕ} {after : Taken} → whole < 10 * power → Subtracts power 8 (record { digit = 0; rest = whole; subtractions = 0 }) after → SoFar power whole 8 1 after
 first {power} {whole} small t =
-    next (record { sum = omega (arith, zero-mul power); below = omega arith; small = omega arith; counted = refl }) t
+    next (record { made = no-subtraction; sum = omega (arith, zero-mul power); below = omega arith; small = omega arith; counted = refl }) t
 
 subtract-requires : tie.Need-subtract-requires
 subtract-requires c κs = search needs
@@ -66,7 +67,7 @@ returns c =
     let l = c .before in
     let k = l .before in
     let s = next (next (next (first (k .before .before .pre .0) (k .before .subtract .ensures)) (k .subtract2 .ensures)) (l .subtract3 .ensures)) (c .subtract4 .ensures) in
-    record { sum = s .sum; below = omega arith; few = omega arith }
+    record { made = s .made; sum = s .sum; below = omega arith; few = omega arith }
 
 pub take-digit-spec : {M : Type 1} → statement M
 take-digit-spec =
