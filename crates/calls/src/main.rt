@@ -1,5 +1,7 @@
 // Makes the calls that stand on standard input, one to a line, and writes an answer line for each: what the call gave, and the whole of a
 // lent buffer. A line that is no call has the answer ?. What a line has, the files words.rt, items.rt and layers.rt say.
+#![tactic(auto)]
+
 mod items;
 mod layers;
 mod shown;

@@ -18,12 +18,12 @@ use Rattle.decimal.specs.Number.{exponent_limit, normal}
 use Rattle.decimal.specs.Image.{plus_byte, minus_byte, hashes, sign_bytes, times}
 use Rattle.decimal.specs.Truncation.{Truncated, truncation, truncated_to, is_signed, number_of}
 use Rattle.decimal.proofs.DigitLaws.{digits_length, digits_split, digits_are_digits, value_of_digits}
-use Rattle.decimal.proofs.TruncationLaws.{truncation-fit, truncation-done}
+use Rattle.decimal.proofs.TruncationLaws.{truncation_fit, truncation_done}
 use Rattle.decimal.proofs.KeptLaws.{truncates_to_itself}
 use Rattle.codec.specs.Packing.{exponent_size}
 use Rattle.codec.specs.Alpha.{blank_byte, exponent_byte, digit_bytes, sign_text, fraction_text, exponent_text, alpha_text}
 use Rattle.codec.specs.Text.{PointPart, no_point, point, ExponentPart, no_exponent, exponent, TextParts, HasForm, fraction_digits, all_digits_of, point_bytes, power_bytes, numeral_bytes, text_bytes, PowerLegal, is_minus, power_value, text_value, convert_text}
-use Rattle.codec.proofs.FitLaws.{whole-size, stored-top, fixed_stored}
+use Rattle.codec.proofs.FitLaws.{whole_size, stored_top, fixed_stored}
 use Rattle.codec.proofs.FormLaws.{converts_form}
 
 -- The parts of an alpha text.
@@ -150,13 +150,13 @@ record Kept (im : Image) (t : Truncated) : Type 0 where
 truncation_kept : (im : Image) (n : Number) {t : Truncated} → truncation 0 im n ≡ done t → Kept im t
 unfolding truncated_to
 truncation_kept im n h =
-    let fit = truncation-fit 0 im n h in
-    subst⁻¹ (λ (t : Truncated). Kept im t) (truncation-done 0 im n h)
+    let fit = truncation_fit 0 im n h in
+    subst⁻¹ (λ (t : Truncated). Kept im t) (truncation_done 0 im n h)
     (record {
       some = fit.nonempty;
       few = fit.size;
-      below = whole-size im n fit;
-      top = stored-top im n fit;
+      below = whole_size im n fit;
+      top = stored_top im n fit;
       fixed = fixed_stored im n;
       unsigned = λ e. rw e;
     })

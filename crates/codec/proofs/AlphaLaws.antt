@@ -26,11 +26,11 @@ use Rattle.decimal.specs.Truncation.{Truncated, truncation, truncation_of}
 use Rattle.decimal.proofs.DigitLaws.{digits_length}
 use Rattle.decimal.proofs.PackedLaws.{halves_length, half_at}
 use Rattle.decimal.proofs.ImageLaws.{times_length, read_done}
-use Rattle.decimal.proofs.TruncationLaws.{truncation-fit, truncation-done}
+use Rattle.decimal.proofs.TruncationLaws.{truncation_fit, truncation_done}
 use Rattle.decimal.proofs.AnswerLaws.{never, one_answer}
 use Rattle.codec.specs.Answers.{stored_in, within, sized, written}
 use Rattle.codec.proofs.FitLaws.{truncation-held, truncation-held-by}
-use Rattle.codec.proofs.BufferLaws.{written_pasted, written_none, written_stored, written-length, written_next}
+use Rattle.codec.proofs.BufferLaws.{written_pasted, written_none, written_stored, written_length, written_next}
 use Rattle.codec.specs.Columns.{sign_count}
 use Rattle.codec.specs.Packing.{exponent_size, held_by, Held}
 use Rattle.codec.specs.Alpha.{blank_byte, zero_byte, exponent_byte, digit_bytes, sign_text, fraction_text, exponent_text, alpha_text, alpha_under, alpha_of, writing_alpha_under, writing_alpha, zero_at, fraction_length, exponent_length, tail_length, text_length}
@@ -103,16 +103,16 @@ tail_text_length im t =
 
 module _ (im : Image) (t : Truncated) where
   -- the digits before the point
-  abbrev pub integerText : List ℕ
-  integerText = digit_bytes (digits_of im.integer (t.whole / 10 ^ im.fraction))
+  abbrev pub integer_text : List ℕ
+  integer_text = digit_bytes (digits_of im.integer (t.whole / 10 ^ im.fraction))
 
   -- with the sign before them
   abbrev pub front_text : List ℕ
-  front_text = sign_text im.sign t.negative ++ integerText
+  front_text = sign_text im.sign t.negative ++ integer_text
 
   -- and with the point and the digits behind it
-  abbrev pub fixedText : List ℕ
-  fixedText = front_text ++ fraction_text im.fraction t.whole
+  abbrev pub fixed_text : List ℕ
+  fixed_text = front_text ++ fraction_text im.fraction t.whole
 
   -- a text has the length that the code finds
   pub text_length_lem : length (alpha_text im t) ≡ text_length im
@@ -120,8 +120,8 @@ module _ (im : Image) (t : Truncated) where
   text_length_lem =
       omega (
         arith,
-        length-append (sign_text im.sign t.negative) (integerText ++ tail_text im t),
-        length-append integerText (tail_text im t),
+        length-append (sign_text im.sign t.negative) (integer_text ++ tail_text im t),
+        length-append integer_text (tail_text im t),
         sign_text_length im.sign t.negative,
         shown_length im.integer (t.whole / 10 ^ im.fraction),
         tail_text_length im t,
@@ -201,12 +201,12 @@ written_to buffer start bytes j = paste buffer start bytes j
 
 module _ (bytes buffer : List ℕ) (start : ℕ) where
   -- before the first byte
-  pub written-starts : buffer ≡ written_to buffer start bytes 0
+  pub written_starts : buffer ≡ written_to buffer start bytes 0
   unfolding written_to
-  written-starts = paste-zero buffer start bytes
+  written_starts = paste-zero buffer start bytes
 
   -- one byte more
-  pub written-turns :
+  pub written_turns :
       (after : List ℕ) (j b : ℕ)
       → after ≡ written_to buffer start bytes j
       → j < length bytes
@@ -214,15 +214,15 @@ module _ (bytes buffer : List ℕ) (start : ℕ) where
       → b ≡ get_or bytes j 0
       → set after (start + j) b ≡ written_to buffer start bytes (j + 1)
   unfolding written_to
-  written-turns after j b e inside room byte =
+  written_turns after j b e inside room byte =
       (λ i. set (e i) (start + j) (byte i))
       ∙ paste-suc buffer start bytes j 0 (omega arith) inside
       ∙ ap (paste buffer start bytes) (sym (add-one j))
 
   -- behind the last byte
-  pub written-ends : (after : List ℕ) (j : ℕ) → after ≡ written_to buffer start bytes j → j ≡ length bytes → after ≡ written buffer start bytes
+  pub written_ends : (after : List ℕ) (j : ℕ) → after ≡ written_to buffer start bytes j → j ≡ length bytes → after ≡ written buffer start bytes
   unfolding written_to
-  written-ends after j e full = e ∙ written_pasted buffer start bytes j full
+  written_ends after j e full = e ∙ written_pasted buffer start bytes j full
 
 -- one byte
 byte_written : (b : List ℕ) (start v : ℕ) → start < length b → set b start v ≡ written b start (v ∷ [])
@@ -239,7 +239,7 @@ byte_behind :
     → start + length s < length b
     → set (written b start s) (start + length s) v ≡ written b start (s ++ (v ∷ []))
 byte_behind b start s v h =
-    byte_written (written b start s) (start + length s) v (omega (arith, written-length b start s (omega arith)))
+    byte_written (written b start s) (start + length s) v (omega (arith, written_length b start s (omega arith)))
     ∙ written_next b start s (v ∷ []) (omega arith)
 
 -- bytes behind others
@@ -325,75 +325,75 @@ module _ (im : Image) (t : Truncated) (b : List ℕ) (room : text_length im ≤ 
   -- their lengths
   front_length : length (front_text im t) ≡ sign_count im.sign + im.integer
   front_length =
-      length-append (sign_text im.sign t.negative) (integerText im t)
+      length-append (sign_text im.sign t.negative) (integer_text im t)
       ∙ ap₂ ◌+◌ (sign_text_length im.sign t.negative) (shown_length im.integer (t.whole / 10 ^ im.fraction))
 
-  fixed-length : length (fixedText im t) ≡ sign_count im.sign + im.integer + fraction_length im.fraction
-  fixed-length =
+  fixed_length : length (fixed_text im t) ≡ sign_count im.sign + im.integer + fraction_length im.fraction
+  fixed_length =
       length-append (front_text im t) (fraction_text im.fraction t.whole)
       ∙ ap₂ ◌+◌ front_length (fraction_text_length im.fraction t.whole)
 
   -- the digits before the point are written behind the sign
-  pub integer-step :
+  pub integer_step :
       {w ds : List ℕ} {place : ℕ}
       → w ≡ written b 0 (sign_text im.sign t.negative)
       → place ≡ sign_count im.sign
       → ds ≡ digits_of im.integer (t.whole / 10 ^ im.fraction)
       → written w place (digit_bytes ds) ≡ written b 0 (front_text im t)
   unfolding text_length tail_length
-  integer-step {w} {ds} {place} e p d =
+  integer_step {w} {ds} {place} e p d =
       let signs = sign_text_length im.sign t.negative in
       ap (λ (l : List ℕ). written w place (digit_bytes l)) d
-      ∙ written_behind b 0 (sign_text im.sign t.negative) (integerText im t) e (omega arith)
+      ∙ written_behind b 0 (sign_text im.sign t.negative) (integer_text im t) e (omega arith)
       (omega (arith, shown_length im.integer (t.whole / 10 ^ im.fraction)))
 
   -- the fraction behind them
-  pub fraction-step :
+  pub fraction_step :
       {w : List ℕ} {place : ℕ}
       → w ≡ written b 0 (front_text im t)
       → place ≡ sign_count im.sign + im.integer
-      → written w place (fraction_text im.fraction t.whole) ≡ written b 0 (fixedText im t)
+      → written w place (fraction_text im.fraction t.whole) ≡ written b 0 (fixed_text im t)
   unfolding text_length tail_length
-  fraction-step e p =
+  fraction_step e p =
       written_behind b 0 (front_text im t) (fraction_text im.fraction t.whole) e (omega (arith, front_length))
       (omega (arith, front_length, fraction_text_length im.fraction t.whole))
 
   -- these are the whole text in fixed point
-  pub fixed-end : {w : List ℕ} → im.exponential ≡ false → w ≡ written b 0 (fixedText im t) → w ≡ stored_in (done (alpha_text im t)) b
+  pub fixed_end : {w : List ℕ} → im.exponential ≡ false → w ≡ written b 0 (fixed_text im t) → w ≡ stored_in (done (alpha_text im t)) b
   unfolding alpha_text exponent_text
-  fixed-end kind e = e ∙ written_stored b (fixedText im t) ∙ rw kind (simp (append_assoc, append-nil))
+  fixed_end kind e = e ∙ written_stored b (fixed_text im t) ∙ rw kind (simp (append_assoc, append-nil))
 
   -- else the exponent is written behind them
-  pub exponent-end :
+  pub exponent_end :
       {w : List ℕ} {place : ℕ}
       → im.exponential ≡ true
-      → w ≡ written b 0 (fixedText im t)
+      → w ≡ written b 0 (fixed_text im t)
       → place ≡ sign_count im.sign + im.integer + fraction_length im.fraction
       → written w place (exponent_text true (zero_at t.x)) ≡ stored_in (done (alpha_text im t)) b
   unfolding alpha_text exponent_text exponent_size text_length tail_length
-  exponent-end kind e p =
-      written_behind b 0 (fixedText im t) (exponent_text true t) e (omega (arith, fixed-length))
-      (omega (arith, fixed-length, exponent_text_length true t, ap exponent_length kind))
-      ∙ written_stored b (fixedText im t ++ exponent_text true t)
+  exponent_end kind e p =
+      written_behind b 0 (fixed_text im t) (exponent_text true t) e (omega (arith, fixed_length))
+      (omega (arith, fixed_length, exponent_text_length true t, ap exponent_length kind))
+      ∙ written_stored b (fixed_text im t ++ exponent_text true t)
       ∙ rw kind (simp append_assoc)
 
 -- What a call that writes answers, and the buffer behind it.
 
 module _ (a : Answer (List ℕ)) (buffer : List ℕ) where
   -- refused: no byte changes
-  pub refused-answers : {number place : ℕ} → a ≡ refused number place → (refused number place ≡ sized a) × (buffer ≡ stored_in a buffer)
+  pub refused_answers : {number place : ℕ} → a ≡ refused number place → (refused number place ≡ sized a) × (buffer ≡ stored_in a buffer)
   unfolding sized stored_in
-  refused-answers h = (sym (ap sized h), sym (ap (λ (b : Answer (List ℕ)). stored_in b buffer) h))
+  refused_answers h = (sym (ap sized h), sym (ap (λ (b : Answer (List ℕ)). stored_in b buffer) h))
 
   -- not refused: the bytes are written
-  pub done-answers :
+  pub done_answers :
       {bytes after : List ℕ} {size : ℕ}
       → a ≡ done bytes
       → length bytes ≡ size
       → after ≡ stored_in (done bytes) buffer
       → (done size ≡ sized a) × (after ≡ stored_in a buffer)
   unfolding sized
-  done-answers h e stored =
+  done_answers h e stored =
       (sym (ap sized h ∙ ap {B = Answer ℕ} done e), stored ∙ sym (ap (λ (b : Answer (List ℕ)). stored_in b buffer) h))
 
 -- What a number's text is, and when it is refused.
@@ -419,11 +419,11 @@ truncation_found im n r e a = go (truncation 0 im n) refl
   where
     go : (t : Answer Truncated) → truncation 0 im n ≡ t → Found im n r
     go (done t) h =
-        let fit = truncation-fit 0 im n h in
+        let fit = truncation_fit 0 im n h in
         record {
           to = t;
           truncated = h;
-          same = truncation-held-by im n fit r e ∙ sym (truncation-done 0 im n h);
+          same = truncation-held-by im n fit r e ∙ sym (truncation_done 0 im n h);
           is_held = truncation-held im n fit r e;
         }
     go (refused number place) h = held_never im n r number place (e ∙ ap truncation_of h) a
@@ -456,26 +456,26 @@ truncation_refused im n r refusal e a = held_answer (truncation 0 im n) r refusa
 
 module _ (im : Image) (n : Number) where
   -- under an image that is read 3, 4 and 5 are the number's
-  pub under-refused : {number place : ℕ} → truncation 0 im n ≡ refused number place → alpha_under im n ≡ refused number place
+  pub under_refused : {number place : ℕ} → truncation 0 im n ≡ refused number place → alpha_under im n ≡ refused number place
   unfolding alpha_under ◌then◌
-  under-refused h = rw h
+  under_refused h = rw h
 
   -- else there is a text
-  pub under-done : {t : Truncated} → truncation 0 im n ≡ done t → alpha_under im n ≡ done (alpha_text im t)
+  pub under_done : {t : Truncated} → truncation 0 im n ≡ done t → alpha_under im n ≡ done (alpha_text im t)
   unfolding alpha_under alpha_text ◌then◌
-  under-done h = rw h
+  under_done h = rw h
 
   -- and it is that of the truncation that the code holds
-  pub under-held : (r : Truncation) → Found im n r → alpha_under im n ≡ done (alpha_text im (held_by r))
-  under-held r found = under-done found.truncated ∙ ap (λ (t : Truncated). done (alpha_text im t)) (sym found.same)
+  pub under_held : (r : Truncation) → Found im n r → alpha_under im n ≡ done (alpha_text im (held_by r))
+  under_held r found = under_done found.truncated ∙ ap (λ (t : Truncated). done (alpha_text im t)) (sym found.same)
 
   -- Published: the text has the length that the image says.
-  pub alpha-under-length : {text : List ℕ} → alpha_under im n ≡ done text → length text ≡ text_length im
-  alpha-under-length {text} h = go (truncation 0 im n) refl
+  pub alpha_under_length : {text : List ℕ} → alpha_under im n ≡ done text → length text ≡ text_length im
+  alpha_under_length {text} h = go (truncation 0 im n) refl
     where
       go : (a : Answer Truncated) → truncation 0 im n ≡ a → length text ≡ text_length im
-      go (done t) e = ap length (one_answer h (under-done e)) ∙ text_length_lem im t
-      go (refused number place) e = never (under-refused e) h
+      go (done t) e = ap length (one_answer h (under_done e)) ∙ text_length_lem im t
+      go (refused number place) e = never (under_refused e) h
 
   module _ (room : ℕ) where
     -- a number that has no text is refused as that says
@@ -495,9 +495,9 @@ module _ (im : Image) (n : Number) where
 
 module _ (bytes : List ℕ) (n : Number) where
   -- 1 and 2 come first
-  pub alpha-image : {number place : ℕ} → read_image 0 bytes ≡ refused number place → alpha_of bytes n ≡ refused number place
+  pub alpha_image : {number place : ℕ} → read_image 0 bytes ≡ refused number place → alpha_of bytes n ≡ refused number place
   unfolding alpha_of ◌then◌
-  alpha-image h = rw h
+  alpha_image h = rw h
 
   module _ (im : Image) (read : read_image 0 bytes ≡ done im) where
     -- else the answer is that under the image
@@ -512,15 +512,15 @@ module _ (bytes : List ℕ) (n : Number) where
 
     -- a number that the image can truncate has a text
     pub alpha-done : {t : Truncated} → truncation 0 im n ≡ done t → alpha_of bytes n ≡ done (alpha_text im t)
-    alpha-done h = alpha-read ∙ under-done im n h
+    alpha-done h = alpha-read ∙ under_done im n h
 
   -- Published: the text has the image's length.
-  pub alpha-length : {text : List ℕ} → alpha_of bytes n ≡ done text → length text ≡ length bytes
-  alpha-length {text} h = go (read_image 0 bytes) refl
+  pub alpha_length : {text : List ℕ} → alpha_of bytes n ≡ done text → length text ≡ length bytes
+  alpha_length {text} h = go (read_image 0 bytes) refl
     where
       go : (a : Answer Image) → read_image 0 bytes ≡ a → length text ≡ length bytes
-      go (done im) read = alpha-under-length im n (sym (alpha-read im read) ∙ h) ∙ sym (read_length 0 bytes read)
-      go (refused number place) read = never (alpha-image read) h
+      go (done im) read = alpha_under_length im n (sym (alpha-read im read) ∙ h) ∙ sym (read_length 0 bytes read)
+      go (refused number place) read = never (alpha_image read) h
 
   module _ (room : ℕ) where
     -- a number that has no text is refused as that says

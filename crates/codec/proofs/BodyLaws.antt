@@ -23,11 +23,11 @@ use Rattle.codec.specs.Contents.{read_alone, check_images}
 use Rattle.codec.specs.Packing.AllPack.{none, one}
 use Rattle.codec.specs.Lists.{list_of}
 use Rattle.codec.specs.Packing.{column_bytes, pack_columns, pack_list, body_of, packing_under, pack_under, packing, PacksUnder, AllPack}
-use Rattle.codec.proofs.ListLaws.{filled-length, filled-take, taken-from}
+use Rattle.codec.proofs.ListLaws.{filled_length, filled_take, taken_from}
 use Rattle.codec.proofs.UnderLaws.{pack_under_checked}
-use Rattle.codec.proofs.BufferLaws.{written-length, written_next, written_stored}
+use Rattle.codec.proofs.BufferLaws.{written_length, written_next, written_stored}
 use Rattle.codec.proofs.HalfLaws.{column_length_lem}
-use Rattle.codec.proofs.PackLaws.{packed-anywhere, packs-under, packs_fit, packs_at, packs_length}
+use Rattle.codec.proofs.PackLaws.{packed_anywhere, packs_under, packs_fit, packs_at, packs_length}
 
 -- the first n elements are at most n
 length_take_at_most : {A : Type 0} (n : ℕ) (l : List A) → length (take n l) ≤ n
@@ -45,7 +45,7 @@ bytes_of (im ∷ ims) (n ∷ ns) = column_bytes im (truncated_to im n) ++ bytes_
 pub packs_columns : (column : ℕ) {ims : List Image} {ns : List Number} → AllPack ims ns → pack_columns column ims ns ≡ done (bytes_of ims ns)
 unfolding pack_columns ◌then◌ bytes_of
 packs_columns column none = refl
-packs_columns column (one {im} {n} p ps) = rw (packed-anywhere 0 im n (p.truncated 0) column, packs_columns (suc column) ps)
+packs_columns column (one {im} {n} p ps) = rw (packed_anywhere 0 im n (p.truncated 0) column, packs_columns (suc column) ps)
 
 -- where a list is packed, it packs
 pub columns_pack : (column : ℕ) (ims : List Image) (ns : List Number) {body : List ℕ} → length ns ≡ length ims → pack_columns column ims ns ≡ done body → AllPack ims ns
@@ -60,7 +60,7 @@ columns_pack column (im ∷ ims) (n ∷ ns) {body} e h =
     never x y r = let z : ◌≡◌ {A = ℕ} 0 1 = cc in absurd (omega arith)
 
     rest : ((bytes : List ℕ) → pack_columns (suc column) ims ns ≡ done bytes → AllPack ims ns) → {t : Truncated} → packed_truncation column im n ≡ done t → (a : Answer (List ℕ)) → pack_columns (suc column) ims ns ≡ a → AllPack (im ∷ ims) (n ∷ ns)
-    rest later f (done bytes) g = one (packs-under column im n f) (later bytes g)
+    rest later f (done bytes) g = one (packs_under column im n f) (later bytes g)
     rest later f (refused x y) g = never x y (rw (f, g))
 
     first : ((bytes : List ℕ) → pack_columns (suc column) ims ns ≡ done bytes → AllPack ims ns) → (a : Answer Truncated) → packed_truncation column im n ≡ a → AllPack (im ∷ ims) (n ∷ ns)
@@ -125,38 +125,38 @@ then_checked (refused x y) f = refl
 
 module _ (column : ℕ) (im : Image) (n : Number) (ims : List Image) (ns : List Number) where
   -- behind a number that packs the rest decides
-  pub check-turn :
+  pub check_turn :
       checked_only (packed_truncation column im n) ≡ done tt
       → checked_only (pack_columns column (im ∷ ims) (n ∷ ns)) ≡ checked_only (pack_columns (suc column) ims ns)
   unfolding pack_columns ◌then◌
-  check-turn h =
+  check_turn h =
       let f = checked_done (packed_truncation column im n) h in
       rw f.1 (then_checked (pack_columns (suc column) ims ns) (λ (rest : List ℕ). column_bytes im f.0 ++ rest))
 
   -- a number that is refused decides
-  pub check-refused :
+  pub check_refused :
       {x y : ℕ}
       → checked_only (packed_truncation column im n) ≡ refused x y
       → pack_columns column (im ∷ ims) (n ∷ ns) ≡ refused x y
   unfolding pack_columns ◌then◌
-  check-refused h = rw (checked_refused (packed_truncation column im n) h)
+  check_refused h = rw (checked_refused (packed_truncation column im n) h)
 
 -- The same over arrays, of which the first count elements are the lists.
 
 module _ (count : ℕ) (ims : List Image) (ns : List Number) (k : ℕ) (d : Image) (e : Number) (here : k < count) (long-ims : count ≤ length ims) (long-ns : count ≤ length ns) where
   -- the images from a column on
-  images-from : drop k (take count ims) ≡ get_or ims k d ∷ drop (suc k) (take count ims)
-  images-from = taken-from d count ims k here long-ims
+  images_from : drop k (take count ims) ≡ get_or ims k d ∷ drop (suc k) (take count ims)
+  images_from = taken_from d count ims k here long-ims
 
   -- and the numbers
-  numbers-from : drop k (take count ns) ≡ get_or ns k e ∷ drop (suc k) (take count ns)
-  numbers-from = taken-from e count ns k here long-ns
+  numbers_from : drop k (take count ns) ≡ get_or ns k e ∷ drop (suc k) (take count ns)
+  numbers_from = taken_from e count ns k here long-ns
 
   -- and how they are packed
-  columns-from :
+  columns_from :
       pack_columns k (drop k (take count ims)) (drop k (take count ns))
       ≡ pack_columns k (get_or ims k d ∷ drop (suc k) (take count ims)) (get_or ns k e ∷ drop (suc k) (take count ns))
-  columns-from = ap₂ (λ (a : List Image) (b : List Number). pack_columns k a b) images-from numbers-from
+  columns_from = ap₂ (λ (a : List Image) (b : List Number). pack_columns k a b) images_from numbers_from
 
   -- behind a number that packs the rest decides
   pub columns_turn :
@@ -164,8 +164,8 @@ module _ (count : ℕ) (ims : List Image) (ns : List Number) (k : ℕ) (d : Imag
       → checked_only (pack_columns k (drop k (take count ims)) (drop k (take count ns)))
       ≡ checked_only (pack_columns (k + 1) (drop (k + 1) (take count ims)) (drop (k + 1) (take count ns)))
   columns_turn h =
-      ap checked_only columns-from
-      ∙ check-turn k (get_or ims k d) (get_or ns k e) (drop (suc k) (take count ims)) (drop (suc k) (take count ns)) h
+      ap checked_only columns_from
+      ∙ check_turn k (get_or ims k d) (get_or ns k e) (drop (suc k) (take count ims)) (drop (suc k) (take count ns)) h
       ∙ ap (λ (i : ℕ). checked_only (pack_columns i (drop i (take count ims)) (drop i (take count ns)))) (sym (add-one k))
 
   -- a number that is refused decides
@@ -176,7 +176,7 @@ module _ (count : ℕ) (ims : List Image) (ns : List Number) (k : ℕ) (d : Imag
   unfolding checked_only
   columns_refused h =
       ap checked_only
-      (columns-from ∙ check-refused k (get_or ims k d) (get_or ns k e) (drop (suc k) (take count ims)) (drop (suc k) (take count ns)) h)
+      (columns_from ∙ check_refused k (get_or ims k d) (get_or ns k e) (drop (suc k) (take count ims)) (drop (suc k) (take count ns)) h)
 
 -- behind the last column nothing is refused
 pub columns_end : (count k : ℕ) (ims : List Image) (ns : List Number) → count ≤ k → checked_only (pack_columns k (drop k (take count ims)) ns) ≡ done tt
@@ -189,8 +189,8 @@ columns_end count k ims ns h =
 
 module _ (count : ℕ) (ims : List Image) (ns : List Number) (k : ℕ) (d : Image) (e : Number) (here : k < count) (long-ims : count ≤ length ims) (long-ns : count ≤ length ns) where
   -- each number of a list that packs fits its image
-  pub fits-at : AllPack (take count ims) (take count ns) → Fit (get_or ims k d) (get_or ns k e)
-  fits-at packs =
+  pub fits_at : AllPack (take count ims) (take count ns) → Fit (get_or ims k d) (get_or ns k e)
+  fits_at packs =
       let there : PacksUnder (get_or (take count ims) k d) (get_or (take count ns) k e) = packs_at packs k d e (omega (arith, length-take-le count ims long-ims)) in
       packs_fit (rw (get_or-take count ims k d here, get_or-take count ns k e here) at there)
 
@@ -199,14 +199,14 @@ module _ (count : ℕ) (ims : List Image) (ns : List Number) (k : ℕ) (d : Imag
   room_at h = omega (arith, size_next ims k d (omega arith), size_front ims (suc k) count (omega arith))
 
   -- one more column is written
-  pub columns-written :
+  pub columns_written :
       {start : ℕ} (first : List ℕ) {now next : List ℕ}
       → body_size (take count ims) ≤ length first
       → start ≡ body_size (take k ims)
       → now ≡ written first 0 (bytes_of (take k ims) (take k ns))
       → next ≡ written now start (column_bytes (get_or ims k d) (truncated_to (get_or ims k d) (get_or ns k e)))
       → next ≡ written first 0 (bytes_of (take (k + 1) ims) (take (k + 1) ns))
-  columns-written {start} first {now} {next} room at-start before after =
+  columns_written {start} first {now} {next} room at-start before after =
       let done-so-far : List ℕ = bytes_of (take k ims) (take k ns) in
       let column : List ℕ = column_bytes (get_or ims k d) (truncated_to (get_or ims k d) (get_or ns k e)) in
       let same : length (take k ns) ≡ length (take k ims) =
@@ -221,15 +221,15 @@ module _ (count : ℕ) (ims : List Image) (ns : List Number) (k : ℕ) (d : Imag
       ∙ ap (λ (i : ℕ). written first 0 (bytes_of (take i ims) (take i ns))) (sym (add-one k))
 
   -- the buffer keeps its length
-  pub columns-kept :
+  pub columns_kept :
       (start : ℕ) (now : List ℕ) {next : List ℕ}
       → start + column_size (get_or ims k d) ≤ length now
       → next ≡ written now start (column_bytes (get_or ims k d) (truncated_to (get_or ims k d) (get_or ns k e)))
       → length next ≡ length now
-  columns-kept start now {next} room after =
+  columns_kept start now {next} room after =
       let column : List ℕ = column_bytes (get_or ims k d) (truncated_to (get_or ims k d) (get_or ns k e)) in
       let long : length column ≡ column_size (get_or ims k d) = column_length_lem (get_or ims k d) (truncated_to (get_or ims k d) (get_or ns k e)) in
-      ap length after ∙ written-length now start column (omega arith)
+      ap length after ∙ written_length now start column (omega arith)
 
 -- and the place behind it
 pub columns_place : (ims : List Image) (k : ℕ) (d : Image) {start size : ℕ} → k < length ims → start ≡ body_size (take k ims) → size ≡ column_size (get_or ims k d) → start + size ≡ body_size (take (k + 1) ims)
@@ -246,12 +246,12 @@ columns_stored {ims} {ns} first packs =
 -- a list has as many numbers as its count says
 pub list_length : (numbers : Numbers) → length (list_of numbers) ≡ numbers.count
 unfolding list_of
-list_length numbers = filled-length zero_number numbers.count numbers.values
+list_length numbers = filled_length zero_number numbers.count numbers.values
 
 -- and they are the array's first
 pub list_front : (numbers : Numbers) (k : ℕ) → numbers.count ≡ k → k ≤ length numbers.values → list_of numbers ≡ take k numbers.values
 unfolding list_of
-list_front numbers k e h = rw e (filled-take zero_number k numbers.values h)
+list_front numbers k e h = rw e (filled_take zero_number k numbers.values h)
 
 -- refused as the contents is
 pub packing_contents :
@@ -261,9 +261,9 @@ packing_contents contents ns room h = rw h
 
 module _ (ims : List Image) (ns : List Number) (room : ℕ) where
   -- refused as the images are
-  pub under-images : {x y : ℕ} → check_images ims ≡ refused x y → packing_under ims ns room ≡ refused x y
+  pub under_images : {x y : ℕ} → check_images ims ≡ refused x y → packing_under ims ns room ≡ refused x y
   unfolding packing_under pack_under ◌then◌
-  under-images h = rw h
+  under_images h = rw h
 
   module _ (good : check_images ims ≡ done tt) where
     -- what the list is packed to, and then the room
@@ -294,9 +294,9 @@ module _ (ims : List Image) (ns : List Number) (room : ℕ) where
         under-room h = under-list (list-columns ∙ packed) ∙ rw (lt-ltb room (length body) h)
 
         -- else the body
-        pub under-done : length body ≤ room → packing_under ims ns room ≡ done body
+        pub under_done : length body ≤ room → packing_under ims ns room ≡ done body
         unfolding ◌then◌ within
-        under-done h = under-list (list-columns ∙ packed) ∙ rw (le-ltb room (length body) h)
+        under_done h = under-list (list-columns ∙ packed) ∙ rw (le-ltb room (length body) h)
 
 -- Published: a list is packed exactly where it packs, and its body has the length that the images say.
 

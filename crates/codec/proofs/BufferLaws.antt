@@ -47,9 +47,9 @@ module _ (b : List ℕ) (start : ℕ) (s : List ℕ) where
   front_length h = length-append (take start b) s ∙ ap (λ (k : ℕ). k + length s) (length-take-le start b h)
 
   -- the buffer keeps its length
-  pub written-length : start + length s ≤ length b → length (written b start s) ≡ length b
+  pub written_length : start + length s ≤ length b → length (written b start s) ≡ length b
   unfolding written
-  written-length h =
+  written_length h =
       length-append (take start b ++ s) (drop (start + length s) b)
       ∙ omega (arith, front_length (omega arith), length-drop (start + length s) b)
 
@@ -78,7 +78,7 @@ module _ (b : List ℕ) (start : ℕ) (s : List ℕ) where
       → start + n < length b
       → set (written b start s) (start + n) x ≡ written b start (s ++ x ∷ [])
   written_one x n e room =
-      let kept : length (written b start s) ≡ length b = written-length (omega arith) in
+      let kept : length (written b start s) ≡ length b = written_length (omega arith) in
       set_written (written b start s) (start + n) x (omega arith)
       ∙ ap (λ (k : ℕ). written (written b start s) (start + k) (x ∷ [])) (sym e)
       ∙ written_next (x ∷ []) (omega arith)

@@ -24,8 +24,8 @@ use Rattle.codec.specs.Halves.{pack_halves}
 use Rattle.codec.specs.Packing.{exponent_size, column_bytes, held_by}
 use Rattle.codec.proofs.BufferLaws.{written_one}
 use Rattle.codec.proofs.HalfLaws.{exponent_small}
-use Rattle.codec.proofs.FitLaws.{stored-top, fixed_stored, truncation-held-by}
-use Rattle.codec.proofs.RunLaws.{columnFront, front_length, front-halves, run_length, run_behind, bytes-even, bytes-odd, bytes-even-fixed, bytes-odd-fixed}
+use Rattle.codec.proofs.FitLaws.{stored_top, fixed_stored, truncation-held-by}
+use Rattle.codec.proofs.RunLaws.{column_front, front_length, front_halves, run_length, run_behind, bytes-even, bytes-odd, bytes_even_fixed, bytes_odd_fixed}
 
 -- a column has at most one sign half
 pub sign_few : (s : Sign) → sign_count s ≤ 1
@@ -62,29 +62,29 @@ size_held im n fit r made e = e ∙ ap exponent_size (truncation-held-by im n fi
 -- the run of the code's truncation
 pub run_held :
     (im : Image) (n : Number) (fit : Fit im n) (r : Truncation) (made : r ≡ truncation_of (truncation 0 im n)) {run : ℕ}
-    → run ≡ packed_of (columnFront im (held_by r))
-    → run ≡ packed_of (columnFront im (truncated_to im n))
-run_held im n fit r made e = e ∙ ap (λ (t : Truncated). packed_of (columnFront im t)) (truncation-held-by im n fit r made)
+    → run ≡ packed_of (column_front im (held_by r))
+    → run ≡ packed_of (column_front im (truncated_to im n))
+run_held im n fit r made e = e ∙ ap (λ (t : Truncated). packed_of (column_front im t)) (truncation-held-by im n fit r made)
 
 module _ (im : Image) (n : Number) (fit : Fit im n) where
   -- |x| is within its limits
   size_small : exponent_size (truncated_to im n) ≤ exponent_limit
   unfolding truncated_to
-  size_small = exponent_small (truncated_to im n) (stored-top im n fit)
+  size_small = exponent_small (truncated_to im n) (stored_top im n fit)
 
   -- and 0 in fixed point
   size_none : im.exponential ≡ false → exponent_size (truncated_to im n) ≡ 0
   unfolding truncated_to exponent_size
   size_none kind = rw (fixed_stored im n kind)
 
-  module _ {run size : ℕ} (front : run ≡ packed_of (columnFront im (truncated_to im n))) (sized : size ≡ exponent_size (truncated_to im n)) where
+  module _ {run size : ℕ} (front : run ≡ packed_of (column_front im (truncated_to im n))) (sized : size ≡ exponent_size (truncated_to im n)) where
     -- the run with the first digit of |x| behind it
-    behind : sign_count im.sign + hashes im < 16 → bit_or (run * 2 ^ 4 % 2 ^ 64) (size / 10) ≡ packed_of (columnFront im (truncated_to im n) ++ exponent_size (truncated_to im n) / 10 ∷ [])
+    behind : sign_count im.sign + hashes im < 16 → bit_or (run * 2 ^ 4 % 2 ^ 64) (size / 10) ≡ packed_of (column_front im (truncated_to im n) ++ exponent_size (truncated_to im n) / 10 ∷ [])
     behind few =
         let t : Truncated = truncated_to im n in
         let small : exponent_size t ≤ exponent_limit = size_small in
         ap₂ (λ (r x : ℕ). bit_or (r * 2 ^ 4 % 2 ^ 64) (x / 10)) front sized
-        ∙ run_behind (sign_count im.sign + hashes im) (columnFront im t) (front_length im t) few (front-halves im t) (omega arith) refl
+        ∙ run_behind (sign_count im.sign + hashes im) (column_front im t) (front_length im t) few (front_halves im t) (omega arith) refl
 
     module _ (b : List ℕ) (start k : ℕ) {after : List ℕ} (room : start + column_size im ≤ length b) where
       -- an even count of half bytes before the exponent
@@ -94,7 +94,7 @@ module _ (im : Image) (n : Number) (fit : Fit im n) where
         wrote-even-fixed kind =
             wrote
             ∙ ap (λ (r : ℕ). written b start (pack_halves (halves_in (2 * k) r))) front
-            ∙ ap (written b start) (bytes-even-fixed im (truncated_to im n) k even kind)
+            ∙ ap (written b start) (bytes_even_fixed im (truncated_to im n) k even kind)
 
         -- exponential: a byte with |x|
         pub wrote-even :
@@ -117,8 +117,8 @@ module _ (im : Image) (n : Number) (fit : Fit im n) where
         wrote-odd-fixed kind =
             wrote
             ∙ ap (λ (r : ℕ). written b start (pack_halves (halves_in (2 * k) r)))
-            (behind few ∙ ap (λ (x : ℕ). packed_of (columnFront im (truncated_to im n) ++ x / 10 ∷ [])) (size_none kind))
-            ∙ ap (written b start) (bytes-odd-fixed im (truncated_to im n) k odd kind)
+            (behind few ∙ ap (λ (x : ℕ). packed_of (column_front im (truncated_to im n) ++ x / 10 ∷ [])) (size_none kind))
+            ∙ ap (written b start) (bytes_odd_fixed im (truncated_to im n) k odd kind)
 
         -- exponential: the first digit of |x|, and a byte with the second
         pub wrote-odd :

@@ -23,9 +23,9 @@ use Rattle.decimal.specs.Truncation.{is_signed, whole_of, exceeds, exponent_outs
 use Rattle.decimal.proofs.BoolLaws.{and_true, zero_or_not}
 use Rattle.decimal.proofs.PowerLaws.{pow10_pos, pow10_add, pow10_suc, pow10_mono}
 use Rattle.decimal.proofs.DigitLaws.{le_or_lt, leading_unique, leading_low, leading_top, leading_more, leading_at_most, digits_length, digits_are_digits, value_of_digits, value_below, digits_of_value}
-use Rattle.decimal.proofs.NumberLaws.{InRange, normal_range, range_normal, zero_normal, scaled_zero, scaled-shifted, shifted-below, shifted-above, shifted-done}
-use Rattle.decimal.proofs.TruncationLaws.{truncation-fit, fit-truncation, packed-refused, packed-signed, packed-negative, packed-unsigned, exceeds-zero, exceeds-range, outside-zero, outside_above, stored-zero, stored-exponential, stored-fixed, kept-exponential, kept_fixed}
-use Rattle.decimal.proofs.KeptLaws.{whole-zero, kept_whole, kept-none, number-none, number-some}
+use Rattle.decimal.proofs.NumberLaws.{InRange, normal_range, range_normal, zero_normal, scaled_zero, scaled_shifted, shifted-below, shifted-above, shifted-done}
+use Rattle.decimal.proofs.TruncationLaws.{truncation_fit, fit_truncation, packed_refused, packed-signed, packed-negative, packed-unsigned, exceeds_zero, exceeds_range, outside_zero, outside_above, stored_zero, stored_exponential, stored_fixed, kept_exponential, kept_fixed}
+use Rattle.decimal.proofs.KeptLaws.{whole_zero, kept_whole, kept_none, number-none, number-some}
 use Rattle.decimal.proofs.AnswerLaws.{never_done, never, one_answer}
 use Rattle.codec.specs.Lists.{any_of}
 use Rattle.codec.specs.Columns.{Checked, sign_count, exponent_count, half_count, pad_count, column_size}
@@ -34,7 +34,7 @@ use Rattle.codec.specs.Packing.{exponent_size, sign_half, sign_halves, exponent_
 use Rattle.codec.specs.Order.{Bytes}
 use Rattle.codec.specs.Unpacking.{all_digits, all_zero, sign_part, digit_part, exponent_part, pad_part, minus_bit, below_bit, said_by, breaks_rules, as_half, parts_number, halves_number, unpack_column}
 use Rattle.codec.proofs.ContentsLaws.{column_halves_lem}
-use Rattle.codec.proofs.FitLaws.{whole-size, stored-top, fixed_stored}
+use Rattle.codec.proofs.FitLaws.{whole_size, stored_top, fixed_stored}
 use Rattle.codec.proofs.HalfLaws.{halves_of_packed, packed_of_halves, halves_length, bytes_halves, column_halves_below, sign_halves_length, exponent_halves_length, column_even}
 
 -- Answers and tests.
@@ -113,8 +113,8 @@ packed_view place im n {t} h = go (truncation place im n) refl
         (le_or_lt exponent_limit (stored_exponent im n))
 
     go : (a : Answer Truncated) → truncation place im n ≡ a → Packing im n t
-    go (done s) e = signed (truncation-fit place im n e) (is_signed im.sign) refl
-    go (refused x y) e = never (packed-refused place im n e) h
+    go (done s) e = signed (truncation_fit place im n e) (is_signed im.sign) refl
+    go (refused x y) e = never (packed_refused place im n e) h
 
 -- it is refused in no column
 pub packed_back : (place : ℕ) (im : Image) (n : Number) {t : Truncated} → Packing im n t → packed_truncation place im n ≡ done t
@@ -153,40 +153,40 @@ module _ (im : Image) (n : Number) (fit : Fit im n) where
       (⊎_elim (λ z. two_values rest.1 (ap not (eq-eqb (whole_of im n) 0 z))) (λ nz. omega arith) (zero_or_not (whole_of im n)), parts.0)
 
   -- a k of 0 has x = 0
-  none-stored : whole_of im n ≡ 0 → stored_exponent im n ≡ exponent_limit
-  none-stored z =
-      let none : kept_count im n ≡ 0 = eqb-true (kept_count im n) 0 (sym (kept-none im n fit) ∙ eq-eqb (whole_of im n) 0 z) in
-      ⊎_elim (λ m. stored-zero im n m) (λ nz. go none nz im.exponential refl) (zero_or_not n.mantissa)
+  none_stored : whole_of im n ≡ 0 → stored_exponent im n ≡ exponent_limit
+  none_stored z =
+      let none : kept_count im n ≡ 0 = eqb-true (kept_count im n) 0 (sym (kept_none im n fit) ∙ eq-eqb (whole_of im n) 0 z) in
+      ⊎_elim (λ m. stored_zero im n m) (λ nz. go none nz im.exponential refl) (zero_or_not n.mantissa)
     where
       go : kept_count im n ≡ 0 → (n.mantissa ≡ 0 → ⊥) → (b : Bool) → im.exponential ≡ b → stored_exponent im n ≡ exponent_limit
-      go none nz true kind = absurd (omega (arith, kept-exponential im n nz kind, fit.nonempty))
-      go none nz false kind = stored-fixed im n nz kind
+      go none nz true kind = absurd (omega (arith, kept_exponential im n nz kind, fit.nonempty))
+      go none nz false kind = stored_fixed im n nz kind
 
   -- exponential: a k above 0 does not begin with 0
-  first-kept : im.exponential ≡ true → 0 < whole_of im n → 10 ^ hashes im ≤ whole_of im n * 10
-  first-kept kind some =
-      let nz : n.mantissa ≡ 0 → ⊥ = λ z. omega (arith, whole-zero im n z) in
+  first_kept : im.exponential ≡ true → 0 < whole_of im n → 10 ^ hashes im ≤ whole_of im n * 10
+  first_kept kind some =
+      let nz : n.mantissa ≡ 0 → ⊥ = λ z. omega (arith, whole_zero im n z) in
       let range = normal_range n fit.number_checked nz in
-      rw (kept_whole im n fit, kept-exponential im n nz kind)
+      rw (kept_whole im n fit, kept_exponential im n nz kind)
       (cut_first n.mantissa (precision - 1) (hashes im) range.low fit.nonempty fit.size)
 
   -- a truncation keeps to these bounds, if an unsigned image has no negative x
-  fit-kept : (is_signed im.sign ≡ false → exponent_limit ≤ stored_exponent im n) → Kept im (truncated_to im n)
+  fit_kept : (is_signed im.sign ≡ false → exponent_limit ≤ stored_exponent im n) → Kept im (truncated_to im n)
   unfolding truncated_to
-  fit-kept room =
+  fit_kept room =
       record {
-        size = whole-size im n fit;
-        top = stored-top im n fit;
+        size = whole_size im n fit;
+        top = stored_top im n fit;
         minus = sign_kept;
-        zero_x = none-stored;
+        zero_x = none_stored;
         fixed_x = fixed_stored im n;
-        first = first-kept;
+        first = first_kept;
         unsigned_x = room;
       }
 
 -- a truncation that is packed keeps to these bounds
 pub packing_kept : (im : Image) (n : Number) {t : Truncated} → Packing im n t → Kept im t
-packing_kept im n p = subst⁻¹ (λ (t : Truncated). Kept im t) p.cut (fit-kept im n p.fit p.room)
+packing_kept im n p = subst⁻¹ (λ (t : Truncated). Kept im t) p.cut (fit_kept im n p.fit p.room)
 
 -- What the parts of a column say.
 
@@ -227,8 +227,8 @@ sign_half_tells t = go t.negative (ltb t.x exponent_limit) refl refl
 
 module _ (im : Image) (t : Truncated) (kept : Kept im t) where
   -- a missing sign half says plus and no negative x
-  no-sign-tells : is_signed im.sign ≡ false → SignTells t 0
-  no-sign-tells u =
+  no_sign_tells : is_signed im.sign ≡ false → SignTells t 0
+  no_sign_tells u =
       record {
         plain = refl;
         minus = sym (not_then t.negative (λ h. two_values (kept.minus h).1 u));
@@ -272,17 +272,17 @@ module _ (im : Image) (t : Truncated) (kept : Kept im t) where
 
 module _ (s d e z : List ℕ) (a h x : ℕ) (first : length s ≡ a) where
   -- what stands behind the first part
-  behind-first : drop a (s ++ (d ++ (e ++ z))) ≡ d ++ (e ++ z)
-  behind-first = drop_at s (d ++ (e ++ z)) a first
+  behind_first : drop a (s ++ (d ++ (e ++ z))) ≡ d ++ (e ++ z)
+  behind_first = drop_at s (d ++ (e ++ z)) a first
 
   module _ (second : length d ≡ h) where
     -- the second part
     part-second : take h (drop a (s ++ (d ++ (e ++ z)))) ≡ d
-    part-second = ap (take h) behind-first ∙ take_at d (e ++ z) h second
+    part-second = ap (take h) behind_first ∙ take_at d (e ++ z) h second
 
     -- what stands behind it
     behind-second : drop (a + h) (s ++ (d ++ (e ++ z))) ≡ e ++ z
-    behind-second = sym (drop-drop h a (s ++ (d ++ (e ++ z)))) ∙ ap (drop h) behind-first ∙ drop_at d (e ++ z) h second
+    behind-second = sym (drop-drop h a (s ++ (d ++ (e ++ z)))) ∙ ap (drop h) behind_first ∙ drop_at d (e ++ z) h second
 
     module _ (third : length e ≡ x) where
       -- the third part
@@ -293,7 +293,7 @@ module _ (s d e z : List ℕ) (a h x : ℕ) (first : length s ≡ a) where
       part-last : drop (a + (h + x)) (s ++ (d ++ (e ++ z))) ≡ z
       part-last =
           sym (drop-drop (h + x) a (s ++ (d ++ (e ++ z))))
-          ∙ ap (drop (h + x)) behind-first
+          ∙ ap (drop (h + x)) behind_first
           ∙ sym (drop-drop x h (d ++ (e ++ z)))
           ∙ ap (drop x) (drop_at d (e ++ z) h second)
           ∙ drop_at e z x third
@@ -394,45 +394,45 @@ module _ (im : Image) (t : Truncated) where
   pads = zeros (pad_count im)
 
   -- the digits of a column's halves
-  column-digits : digit_part im (column_halves im t) ≡ digits_of (hashes im) t.whole
+  column_digits : digit_part im (column_halves im t) ≡ digits_of (hashes im) t.whole
   unfolding digit_part column_halves
-  column-digits =
+  column_digits =
       part-second signs places exponents pads (sign_count im.sign) (hashes im) (exponent_count im.exponential)
       (sign_halves_length im.sign t) (digits_length (hashes im) t.whole)
 
   -- the digits of |x|
-  column-exponent : exponent_part im (column_halves im t) ≡ exponent_halves im.exponential t
+  column_exponent : exponent_part im (column_halves im t) ≡ exponent_halves im.exponential t
   unfolding exponent_part column_halves
-  column-exponent =
+  column_exponent =
       part-third signs places exponents pads (sign_count im.sign) (hashes im) (exponent_count im.exponential)
       (sign_halves_length im.sign t) (digits_length (hashes im) t.whole) (exponent_halves_length im.exponential t)
 
   -- the padding
-  column-pad : pad_part im (column_halves im t) ≡ zeros (pad_count im)
+  column_pad : pad_part im (column_halves im t) ≡ zeros (pad_count im)
   unfolding pad_part column_halves
-  column-pad =
+  column_pad =
       part-last signs places exponents pads (sign_count im.sign) (hashes im) (exponent_count im.exponential)
       (sign_halves_length im.sign t) (digits_length (hashes im) t.whole) (exponent_halves_length im.exponential t)
 
   -- its bytes have its halves
-  column-bytes-halves : halves_of (column_bytes im t) ≡ column_halves im t
+  column_bytes_halves : halves_of (column_bytes im t) ≡ column_halves im t
   unfolding column_bytes
-  column-bytes-halves = halves_of_packed (column_halves im t) (column_size im) (column_even im t) (column_halves_below im t)
+  column_bytes_halves = halves_of_packed (column_halves im t) (column_size im) (column_even im t) (column_halves_below im t)
 
   module _ (kept : Kept im t) where
     -- the sign half of a column's halves
     column-sign-tells : SignTells t (sign_part im.sign (column_halves im t))
     unfolding column_halves
-    column-sign-tells = sign_part_tells im.sign t (places ++ (exponents ++ pads)) (no-sign-tells im t kept)
+    column-sign-tells = sign_part_tells im.sign t (places ++ (exponents ++ pads)) (no_sign_tells im t kept)
 
     -- the value of the digits is k
     column-value : value_of (digit_part im (column_halves im t)) ≡ t.whole
-    column-value = ap value_of column-digits ∙ value_of_digits (hashes im) t.whole kept.size
+    column-value = ap value_of column_digits ∙ value_of_digits (hashes im) t.whole kept.size
 
     -- the value of the digits of |x| is |x|
     column-exponent-value : value_of (exponent_part im (column_halves im t)) ≡ exponent_size t
     column-exponent-value =
-        ap value_of column-exponent
+        ap value_of column_exponent
         ∙ exponent_halves_value im.exponential t (size_few t kept.top)
         (λ f. let e = kept.fixed_x f in omega (arith, size_above t (omega arith)))
 
@@ -442,9 +442,9 @@ module _ (im : Image) (t : Truncated) where
         let hs = column_halves im t in
         let sign = sign_part im.sign hs in
         halves_number_lem column im hs
-        (ap all_digits column-digits ∙ digits_pass (digits_of (hashes im) t.whole) (digits_are_digits (hashes im) t.whole))
-        (ap all_digits column-exponent ∙ digits_pass (exponent_halves im.exponential t) (exponent_halves_digits im.exponential t))
-        (ap all_zero column-pad ∙ zeros_pass (pad_count im))
+        (ap all_digits column_digits ∙ digits_pass (digits_of (hashes im) t.whole) (digits_are_digits (hashes im) t.whole))
+        (ap all_digits column_exponent ∙ digits_pass (exponent_halves im.exponential t) (exponent_halves_digits im.exponential t))
+        (ap all_zero column_pad ∙ zeros_pass (pad_count im))
         ∙ ap₂ (λ (whole size : ℕ). parts_number column im sign whole size) column-value column-exponent-value
         ∙ parts_number_lem column im sign t.whole (exponent_size t)
         (breaks-none im t kept sign column-sign-tells)
@@ -453,7 +453,7 @@ module _ (im : Image) (t : Truncated) where
     -- so are its bytes
     pub bytes_back : (column : ℕ) {n : Number} → number_of column im t ≡ done n → unpack_column column im (column_bytes im t) ≡ done n
     unfolding unpack_column
-    bytes_back column h = ap (halves_number column im) column-bytes-halves ∙ halves-back column h
+    bytes_back column h = ap (halves_number column im) column_bytes_halves ∙ halves-back column h
 
 -- a number that fits has one truncation as a number, in every column
 pub record StandsFor (im : Image) (t : Truncated) : Type 0 where
@@ -545,7 +545,7 @@ scaled_parts column negative whole up down {n} positive fits h =
     z = leading_zeros precision whole
 
     given : shifted_number column negative whole up down z ≡ done n
-    given = sym (scaled-shifted column negative whole up down positive fits) ∙ h
+    given = sym (scaled_shifted column negative whole up down positive fits) ∙ h
 
     same :
         down + z ≤ exponent_limit + (precision - 1) + up
@@ -567,22 +567,22 @@ zero_fits im checked =
     record { nonempty = checked.nonempty; size = checked.fits; number_checked = zero_normal; within = go im.exponential }
   where
     go : (b : Bool) → pick b (exponent_outside im zero_number) (exceeds im zero_number) ≡ false
-    go true = outside-zero im zero_number refl
-    go false = exceeds-zero im
+    go true = outside_zero im zero_number refl
+    go false = exceeds_zero im
 
 module _ (im : Image) (checked : Checked im) (t : Truncated) (kept : Kept im t) where
   -- k of 0 is zero's
-  zero-packing : t.whole ≡ 0 → Packing im zero_number t
+  zero_packing : t.whole ≡ 0 → Packing im zero_number t
   unfolding truncated_to
-  zero-packing none =
+  zero_packing none =
       record {
         fit = zero_fits im checked;
         cut =
             truncated_path
             (not_then t.negative (λ h. omega (arith, (kept.minus h).0)) ∙ sym (and_false (is_signed im.sign) false (λ s. refl)))
-            (none ∙ sym (whole-zero im zero_number refl))
-            (kept.zero_x none ∙ sym (stored-zero im zero_number refl));
-        room = λ u. omega (arith, stored-zero im zero_number refl);
+            (none ∙ sym (whole_zero im zero_number refl))
+            (kept.zero_x none ∙ sym (stored_zero im zero_number refl));
+        room = λ u. omega (arith, stored_zero im zero_number refl);
       }
 
   module _ (n : Number) (some : 0 < t.whole) (shifted : Shifted t.negative t.whole t.x (exponent_limit + im.fraction) n) where
@@ -595,8 +595,8 @@ module _ (im : Image) (checked : Checked im) (t : Truncated) (kept : Kept im t) 
     whole-fits = lt_of_lt_of_le kept.size (pow10_mono checked.fits)
 
     -- the number is within its bounds
-    shifted-range : InRange n
-    shifted-range =
+    shifted_range : InRange n
+    shifted_range =
         record {
           low = rw shifted.tens (leading_low (precision - 1) t.whole some whole-fits);
           high = rw shifted.tens (leading_top (precision - 1) t.whole some whole-fits);
@@ -605,7 +605,7 @@ module _ (im : Image) (checked : Checked im) (t : Truncated) (kept : Kept im t) 
 
     -- it is not zero
     shifted-nonzero : n.mantissa ≡ 0 → ⊥
-    shifted-nonzero z = omega (arith, shifted-range.low)
+    shifted-nonzero z = omega (arith, shifted_range.low)
 
     -- the number is within the image's limits, has the stored exponent, and loses its tens
     record Cut : Type 0 where
@@ -625,8 +625,8 @@ module _ (im : Image) (checked : Checked im) (t : Truncated) (kept : Kept im t) 
         outside_above im n shifted-nonzero (omega arith) ∙ le-ltb (2 * exponent_limit) (n.exponent + 1 - im.integer) (omega (arith, kept.top)) in
         record {
           within = ap (λ (b : Bool). pick b (exponent_outside im n) (exceeds im n)) kind ∙ stays;
-          stored = stored-exponential im n shifted-nonzero kind ∙ omega arith;
-          dropped = omega (arith, kept-exponential im n shifted-nonzero kind);
+          stored = stored_exponential im n shifted-nonzero kind ∙ omega arith;
+          dropped = omega (arith, kept_exponential im n shifted-nonzero kind);
         }
 
     -- fixed point: the number does not exceed the image, and its k comes back
@@ -636,11 +636,11 @@ module _ (im : Image) (checked : Checked im) (t : Truncated) (kept : Kept im t) 
         let least = leading_least precision (hashes im) t.whole kept.size checked.fits in
         let most = leading_at_most precision t.whole in
         let stays : exceeds im n ≡ false =
-        exceeds-range im n shifted-range
+        exceeds_range im n shifted_range
         ∙ le-ltb im.integer (n.exponent + 1 - exponent_limit) (omega (arith, shifted.place)) in
         record {
           within = ap (λ (b : Bool). pick b (exponent_outside im n) (exceeds im n)) kind ∙ stays;
-          stored = stored-fixed im n shifted-nonzero kind ∙ sym x;
+          stored = stored_fixed im n shifted-nonzero kind ∙ sym x;
           dropped = omega (arith, kept_fixed im n shifted-nonzero kind, shifted.place);
         }
 
@@ -656,7 +656,7 @@ module _ (im : Image) (checked : Checked im) (t : Truncated) (kept : Kept im t) 
           record {
             nonempty = checked.nonempty;
             size = checked.fits;
-            number_checked = range_normal n shifted-range;
+            number_checked = range_normal n shifted_range;
             within = facts.within;
           }
 
@@ -684,14 +684,14 @@ module _ (im : Image) (checked : Checked im) (t : Truncated) (kept : Kept im t) 
           }
 
   -- the number that a truncation stands for is packed to it
-  pub kept-packing : (column : ℕ) {n : Number} → number_of column im t ≡ done n → Packing im n t
+  pub kept_packing : (column : ℕ) {n : Number} → number_of column im t ≡ done n → Packing im n t
   unfolding number_of
-  kept-packing column {n} h =
+  kept_packing column {n} h =
       ⊎_elim
       (λ none.
       subst⁻¹ (λ (k : Number). Packing im k t)
       (one_answer h (scaled_zero column t.negative t.whole t.x (exponent_limit + im.fraction) none))
-      (zero-packing none))
+      (zero_packing none))
       (λ nonzero.
       let some : 0 < t.whole = omega arith in
       let fits : t.whole < 10 ^ precision = lt_of_lt_of_le kept.size (pow10_mono checked.fits) in
@@ -805,47 +805,47 @@ below_part s h =
 
 module _ (im : Image) (sign whole size : ℕ) (rules : Rules im sign whole size) (few : size ≤ exponent_limit) where
   -- x is negative with a size, or not negative
-  said-x :
+  said_x :
       ((8 ≤ sign) × (0 < size) × ((said_by sign whole size).x ≡ exponent_limit - size))
       ⊎ ((sign < 8) × ((said_by sign whole size).x ≡ exponent_limit + size))
   unfolding said_by
-  said-x =
+  said_x =
       ⊎_elim
       (λ le. let b = le-leb 8 sign le in inl (le, rules.below b, rw b))
       (λ lt. inr (lt, rw (lt-leb 8 sign lt)))
       (le_or_lt 8 sign)
 
   -- |x| is the size
-  said-size : exponent_size (said_by sign whole size) ≡ size
-  said-size =
+  said_size : exponent_size (said_by sign whole size) ≡ size
+  said_size =
       ⊎_elim
       (λ l. let e = l.2 in let p = l.1 in size_below (said_by sign whole size) (omega arith) ∙ omega arith)
       (λ r. let e = r.1 in size_above (said_by sign whole size) (omega arith) ∙ omega arith)
-      said-x
+      said_x
 
   -- the minus in the sign half
-  said-minus-part : pick (said_by sign whole size).negative 1 0 ≡ sign % 8
+  said_minus_part : pick (said_by sign whole size).negative 1 0 ≡ sign % 8
   unfolding said_by
-  said-minus-part = minus_part (sign % 8) rules.plain
+  said_minus_part = minus_part (sign % 8) rules.plain
 
   -- the 8 in it
-  said-below : ltb (said_by sign whole size).x exponent_limit ≡ below_bit sign
-  said-below =
+  said_below : ltb (said_by sign whole size).x exponent_limit ≡ below_bit sign
+  said_below =
       ⊎_elim
       (λ l. let e = l.2 in let p = l.1 in lt-ltb (said_by sign whole size).x exponent_limit (omega arith) ∙ sym (le-leb 8 sign l.0))
       (λ r. let e = r.1 in le-ltb (said_by sign whole size).x exponent_limit (omega arith) ∙ sym (lt-leb 8 sign r.0))
-      said-x
+      said_x
 
   -- a sign half is that of what is said
-  said-sign : sign < 16 → sign_half (said_by sign whole size) ≡ sign
+  said_sign : sign < 16 → sign_half (said_by sign whole size) ≡ sign
   unfolding sign_half
-  said-sign low =
-      ap₂ (λ (a : ℕ) (b : Bool). a + pick b 8 0) said-minus-part said-below ∙ add_comm (sign % 8) (pick (below_bit sign) 8 0) ∙ below_part sign low
+  said_sign low =
+      ap₂ (λ (a : ℕ) (b : Bool). a + pick b 8 0) said_minus_part said_below ∙ add_comm (sign % 8) (pick (below_bit sign) 8 0) ∙ below_part sign low
 
   module _ (unsigned : is_signed im.sign ≡ false → sign ≡ 0) (fixed : im.exponential ≡ false → size ≡ 0) (wide : whole < 10 ^ hashes im) where
     -- x is 0 where |x| is
     said-none : size ≡ 0 → (said_by sign whole size).x ≡ exponent_limit
-    said-none z = ⊎_elim (λ l. absurd (omega (arith, l.1))) (λ r. r.1 ∙ omega arith) said-x
+    said-none z = ⊎_elim (λ l. absurd (omega (arith, l.1))) (λ r. r.1 ∙ omega arith) said_x
 
     -- k has at most n digits
     said-wide : (said_by sign whole size).whole < 10 ^ hashes im
@@ -876,7 +876,7 @@ module _ (im : Image) (sign whole size : ℕ) (rules : Rules im sign whole size)
     said-kept =
         record {
           size = said-wide;
-          top = ⊎_elim (λ l. let e = l.2 in omega arith) (λ r. let e = r.1 in omega arith) said-x;
+          top = ⊎_elim (λ l. let e = l.2 in omega arith) (λ r. let e = r.1 in omega arith) said_x;
           minus = said-minus;
           zero_x = λ z. said-none (rules.none_size (said-whole z));
           fixed_x = λ f. said-none (fixed f);
@@ -884,7 +884,7 @@ module _ (im : Image) (sign whole size : ℕ) (rules : Rules im sign whole size)
           unsigned_x =
               λ u.
               let z = unsigned u in
-              ⊎_elim (λ l. absurd (omega (arith, l.0))) (λ r. let e = r.1 in omega arith) said-x;
+              ⊎_elim (λ l. absurd (omega (arith, l.0))) (λ r. let e = r.1 in omega arith) said_x;
         }
 
 -- Bytes of a column's size.
@@ -950,27 +950,27 @@ exponent_none false es none digits f = let e = ap (λ (n : ℕ). 10 ^ n) none in
 
 module _ (im : Image) (hs : List ℕ) (filled : length hs ≡ half_count im + pad_count im) where
   -- the parts have their lengths: the digits
-  digit-part-length : length (digit_part im hs) ≡ hashes im
+  digit_part_length : length (digit_part im hs) ≡ hashes im
   unfolding digit_part
-  digit-part-length =
+  digit_part_length =
       length-take-le (hashes im) (drop (sign_count im.sign) hs) (omega (arith, length-drop (sign_count im.sign) hs))
 
   -- the digits of |x|
-  exponent-part-length : length (exponent_part im hs) ≡ exponent_count im.exponential
+  exponent_part_length : length (exponent_part im hs) ≡ exponent_count im.exponential
   unfolding exponent_part
-  exponent-part-length =
+  exponent_part_length =
       length-take-le (exponent_count im.exponential) (drop (sign_count im.sign + hashes im) hs)
       (omega (arith, length-drop (sign_count im.sign + hashes im) hs))
 
   -- the padding
-  pad-part-length : length (pad_part im hs) ≡ pad_count im
+  pad_part_length : length (pad_part im hs) ≡ pad_count im
   unfolding pad_part
-  pad-part-length = length-drop (half_count im) hs ∙ omega arith
+  pad_part_length = length-drop (half_count im) hs ∙ omega arith
 
   -- the parts are the whole
-  halves-whole : take (sign_count im.sign) hs ++ (digit_part im hs ++ (exponent_part im hs ++ pad_part im hs)) ≡ hs
+  halves_whole : take (sign_count im.sign) hs ++ (digit_part im hs ++ (exponent_part im hs ++ pad_part im hs)) ≡ hs
   unfolding digit_part exponent_part pad_part
-  halves-whole = four_parts hs (sign_count im.sign) (hashes im) (exponent_count im.exponential)
+  halves_whole = four_parts hs (sign_count im.sign) (hashes im) (exponent_count im.exponential)
 
   module _ (column : ℕ) (n : Number) (pass : HalvesPass column im hs n) where
     -- the sign half that is read
@@ -995,15 +995,15 @@ module _ (im : Image) (hs : List ℕ) (filled : length hs ≡ half_count im + pa
 
     -- |x| is within its limit
     in-few : size ≤ exponent_limit
-    in-few = exponent_few im.exponential (exponent_part im hs) exponent-part-length (pass_digits (exponent_part im hs) pass.in_exponent)
+    in-few = exponent_few im.exponential (exponent_part im hs) exponent_part_length (pass_digits (exponent_part im hs) pass.in_exponent)
 
     -- the truncation that is read keeps to the bounds
     read_kept : Kept im said
     read_kept =
         said-kept im sign whole size in-rules in-few
         (sign_part_none im.sign hs)
-        (exponent_none im.exponential (exponent_part im hs) exponent-part-length (pass_digits (exponent_part im hs) pass.in_exponent))
-        (subst (λ (k : ℕ). whole < 10 ^ k) digit-part-length (value_below (digit_part im hs) (pass_digits (digit_part im hs) pass.in_digits)))
+        (exponent_none im.exponential (exponent_part im hs) exponent_part_length (pass_digits (exponent_part im hs) pass.in_exponent))
+        (subst (λ (k : ℕ). whole < 10 ^ k) digit_part_length (value_below (digit_part im hs) (pass_digits (digit_part im hs) pass.in_digits)))
 
     -- its k is the k that was read
     said-is-whole : said.whole ≡ whole
@@ -1013,25 +1013,25 @@ module _ (im : Image) (hs : List ℕ) (filled : length hs ≡ half_count im + pa
     -- its digits are those that were read
     places-again : digits_of (hashes im) said.whole ≡ digit_part im hs
     places-again =
-        ap₂ (λ (c k : ℕ). digits_of c k) (sym digit-part-length) said-is-whole
+        ap₂ (λ (c k : ℕ). digits_of c k) (sym digit_part_length) said-is-whole
         ∙ digits_of_value (digit_part im hs) (pass_digits (digit_part im hs) pass.in_digits)
 
     -- its sign half is the one that was read
     signs-again : Halves hs → sign_halves im.sign said ≡ take (sign_count im.sign) hs
     signs-again half =
         sign_halves_again im.sign said hs (omega arith)
-        (λ s. said-sign im sign whole size in-rules in-few (sign_part_low im.sign hs half))
+        (λ s. said_sign im sign whole size in-rules in-few (sign_part_low im.sign hs half))
 
     -- its digits of |x| are those that were read
     exponents-again : exponent_halves im.exponential said ≡ exponent_part im hs
     exponents-again =
-        exponent_halves_again im.exponential said (exponent_part im hs) exponent-part-length
+        exponent_halves_again im.exponential said (exponent_part im hs) exponent_part_length
         (pass_digits (exponent_part im hs) pass.in_exponent)
-        (said-size im sign whole size in-rules in-few)
+        (said_size im sign whole size in-rules in-few)
 
     -- its padding is the one that was read
     pads-again : zeros (pad_count im) ≡ pad_part im hs
-    pads-again = ap zeros (sym pad-part-length) ∙ pass_zeros (pad_part im hs) pass.in_pad
+    pads-again = ap zeros (sym pad_part_length) ∙ pass_zeros (pad_part im hs) pass.in_pad
 
     -- its halves are those that were read
     halves-again : Halves hs → column_halves im said ≡ hs
@@ -1039,12 +1039,12 @@ module _ (im : Image) (hs : List ℕ) (filled : length hs ≡ half_count im + pa
     halves-again half =
         ap₂ (λ (s d : List ℕ). s ++ (d ++ (exponent_halves im.exponential said ++ zeros (pad_count im)))) (signs-again half) places-again
         ∙ ap₂ (λ (e z : List ℕ). take (sign_count im.sign) hs ++ (digit_part im hs ++ (e ++ z))) exponents-again pads-again
-        ∙ halves-whole
+        ∙ halves_whole
 
 module _ (im : Image) (checked : Checked im) (place : ℕ) (bytes : List ℕ) (n : Number) where
   -- the truncation that a column's bytes say
-  abbrev saidIn : Truncated
-  saidIn =
+  abbrev said_in : Truncated
+  said_in =
       said_by (sign_part im.sign (halves_of bytes)) (value_of (digit_part im (halves_of bytes))) (value_of (exponent_part im (halves_of bytes)))
 
   module _ (sized : length bytes ≡ column_size im) (read : unpack_column place im bytes ≡ done n) where
@@ -1058,14 +1058,14 @@ module _ (im : Image) (checked : Checked im) (place : ℕ) (bytes : List ℕ) (n
     halves-pass = halves_view place im (halves_of bytes) read
 
     -- the number read is packed to what they say
-    pub column-packs : Packing im n saidIn
+    pub column-packs : Packing im n said_in
     column-packs =
-        kept-packing im checked saidIn (read_kept im (halves_of bytes) halves-filled place n halves-pass) place halves-pass.stands
+        kept_packing im checked said_in (read_kept im (halves_of bytes) halves-filled place n halves-pass) place halves-pass.stands
 
     -- and where they are bytes, to them
-    column-same : Bytes bytes → column_bytes im saidIn ≡ bytes
+    column_same : Bytes bytes → column_bytes im said_in ≡ bytes
     unfolding column_bytes
-    column-same known =
+    column_same known =
         ap pack_halves (halves-again im (halves_of bytes) halves-filled place n halves-pass (bytes_halves known)) ∙ packed_of_halves bytes
 
 -- Published: where bytes of a column's size are read, the number read packs to these bytes, in every column.
@@ -1078,9 +1078,9 @@ pub column_accepts :
     → unpack_column place im bytes ≡ done n
     → (t : Truncated) × ((column : ℕ) → packed_truncation column im n ≡ done t) × (column_bytes im t ≡ bytes)
 column_accepts im checked place bytes {n} known sized h = (
-  saidIn im checked place bytes n,
+  said_in im checked place bytes n,
   λ column. packed_back column im n (column-packs im checked place bytes n sized h),
-  column-same im checked place bytes n sized h known,
+  column_same im checked place bytes n sized h known,
 )
 
 -- what a packed column gives back: the number of the truncation, which packs to the same bytes
@@ -1098,7 +1098,7 @@ packing_truncated :
     → truncated_number column im n ≡ done m
 unfolding truncated_number ◌then◌
 packing_truncated column im n p h =
-    rw (fit-truncation column im n p.fit) (ap (number_of column im) (sym p.cut) ∙ h)
+    rw (fit_truncation column im n p.fit) (ap (number_of column im) (sym p.cut) ∙ h)
 
 -- Published: a packed column is read back as the number's truncation, which packs to it again.
 pub column_round :
@@ -1112,5 +1112,5 @@ column_round place im n {t} h =
       number = s.number;
       is_truncated = λ column. packing_truncated column im n p (s.stands_for column);
       unpacked = λ column. bytes_back im t kept column (s.stands_for column);
-      packed_again = λ column. packed_back column im s.number (kept-packing im checked t kept column (s.stands_for column));
+      packed_again = λ column. packed_back column im s.number (kept_packing im checked t kept column (s.stands_for column));
     }

@@ -22,7 +22,7 @@ use Rattle.decimal.proofs.AnswerLaws.{never_done, done_same, then_done}
 use Rattle.codec.specs.declared.contents.Contents.{Contents}
 use Rattle.decimal.specs.declared.refusal.CheckAnswer.TheVariants as checks
 use Rattle.codec.specs.Lists.{filled, max_columns, no_image}
-use Rattle.codec.proofs.ListLaws.{filled-set}
+use Rattle.codec.proofs.ListLaws.{filled_set}
 use Rattle.codec.specs.Columns.{sign_count, exponent_count, half_count, pad_count, column_size, body_size, Checked, AllChecked, none, more}
 use Rattle.codec.specs.Contents.{Table, read_column, Column, column_at, column_length, read_columns, columns_length, read_contents, read_alone, contents_of}
 
@@ -50,25 +50,25 @@ column_checked place (n ∷ bytes) {im} h = go (ltb (length bytes) n) h
 
 module _ (column place : ℕ) (bytes : List ℕ) where
   -- no column begins behind the last byte
-  pub column-none : length bytes ≤ place → column_at column place bytes ≡ refused 11 0
+  pub column_none : length bytes ≤ place → column_at column place bytes ≡ refused 11 0
   unfolding column_at read_column ◌then◌
-  column-none h = rw (drop_of_length-le bytes h)
+  column_none h = rw (drop_of_length-le bytes h)
 
   -- what the bytes behind a length byte are read as
-  column-front :
+  column_front_lem :
       place < length bytes
       → column_at column place bytes
       ≡ (read_column column (get_or bytes place 0 ∷ drop (place + 1) bytes) then λ im. done (record { image = im; next = place + suc (get_or bytes place 0) }))
   unfolding column_at column_length
-  column-front h =
+  column_front_lem h =
       let front : drop place bytes ≡ get_or bytes place 0 ∷ drop (place + 1) bytes = rw (add-one, drop-cons bytes place 0) in
       rw front
 
   -- the bytes may end inside a column
-  pub column-short : place < length bytes → length bytes - (place + 1) < get_or bytes place 0 → column_at column place bytes ≡ refused 11 0
+  pub column_short : place < length bytes → length bytes - (place + 1) < get_or bytes place 0 → column_at column place bytes ≡ refused 11 0
   unfolding read_column ◌then◌
-  column-short h l =
-      column-front h
+  column_short h l =
+      column_front_lem h
       ∙ rw (lt-ltb (length (drop (place + 1) bytes)) (get_or bytes place 0) (rw (length-drop (place + 1) bytes) l))
 
   -- else its image is read
@@ -80,7 +80,7 @@ module _ (column place : ℕ) (bytes : List ℕ) where
       → column_at column place bytes ≡ (a then λ im. done (record { image = im; next = place + 1 + get_or bytes place 0 }))
   unfolding read_column ◌then◌
   column_read h l {a} e =
-      column-front h
+      column_front_lem h
       ∙ rw (le-ltb (length (drop (place + 1) bytes)) (get_or bytes place 0) (rw (length-drop (place + 1) bytes) l), ← e)
       (ap (λ (k : ℕ). a then λ im. done (record { image = im; next = k })) (omega arith))
 
@@ -220,36 +220,36 @@ alone_refused bytes r refusal h e = told_refused (read_alone bytes) r refusal h 
 
 module _ (bytes : List ℕ) where
   -- a contents that is refused is refused alone
-  alone-first : {number place : ℕ} → read_contents bytes ≡ refused number place → read_alone bytes ≡ refused number place
+  alone_first : {number place : ℕ} → read_contents bytes ≡ refused number place → read_alone bytes ≡ refused number place
   unfolding read_alone ◌then◌
-  alone-first h = rw h
+  alone_first h = rw h
 
   -- one that fills the bytes is the same alone
-  pub alone-same : {table : Table} → read_contents bytes ≡ done table → table.size ≡ length bytes → read_alone bytes ≡ done table
+  pub alone_same : {table : Table} → read_contents bytes ≡ done table → table.size ≡ length bytes → read_alone bytes ≡ done table
   unfolding read_alone ◌then◌
-  alone-same {table} h l = rw (h, eq-eqb table.size (length bytes) l)
+  alone_same {table} h l = rw (h, eq-eqb table.size (length bytes) l)
 
   -- one that does not is refused alone
-  alone-more : {table : Table} → read_contents bytes ≡ done table → (table.size ≡ length bytes → ⊥) → read_alone bytes ≡ refused 11 0
+  alone_more : {table : Table} → read_contents bytes ≡ done table → (table.size ≡ length bytes → ⊥) → read_alone bytes ≡ refused 11 0
   unfolding read_alone ◌then◌
-  alone-more {table} h l = rw (h, ne_eqb table.size (length bytes) l)
+  alone_more {table} h l = rw (h, ne_eqb table.size (length bytes) l)
 
   module _ (r : Contents) (h : r ≡ contents_of (read_contents bytes)) where
     -- so the code's answer is the same alone where it is refused
     pub alone-stops : (refusal : Refusal) → r.answer ≡ checks.Refused refusal → r ≡ contents_of (read_alone bytes)
     alone-stops refusal e =
         let q = told_refused (read_contents bytes) r refusal h e in
-        h ∙ ap contents_of (q ∙ sym (alone-first q))
+        h ∙ ap contents_of (q ∙ sym (alone_first q))
 
     -- and where it fills the bytes
     pub alone-whole : r.answer ≡ checks.Fine → r.size ≡ length bytes → r ≡ contents_of (read_alone bytes)
     alone-whole e l =
         let t = told_read (read_contents bytes) r h e in
-        h ∙ ap contents_of (t.reads ∙ sym (alone-same t.reads (sym t.size ∙ l)))
+        h ∙ ap contents_of (t.reads ∙ sym (alone_same t.reads (sym t.size ∙ l)))
 
     -- else it is refused
     pub alone-long : r.answer ≡ checks.Fine → (r.size ≡ length bytes → ⊥) → read_alone bytes ≡ refused 11 0
-    alone-long e l = let t = told_read (read_contents bytes) r h e in alone-more t.reads (λ z. l (t.size ∙ z))
+    alone-long e l = let t = told_read (read_contents bytes) r h e in alone_more t.reads (λ z. l (t.size ∙ z))
 
 -- a column's halves fill its bytes
 pub column_halves_lem : (im : Image) → column_size im + column_size im ≡ half_count im + pad_count im
@@ -311,10 +311,10 @@ column_told column place bytes {im} {next} h =
     let told : ◌≡◌ {A = Answer Column} (done (record { image = b.value; next = place + column_length l })) (done (record { image = im; next = next })) = b.second in
     let same : ◌≡◌ {A = Column} (record { image = b.value; next = place + column_length l }) (record { image = im; next = next }) = cc in
     let image : b.value ≡ im = ap (λ (k : Column). k.image) same in
-    let place-behind : place + column_length l ≡ next = ap (λ (k : Column). k.next) same in
+    let place_behind : place + column_length l ≡ next = ap (λ (k : Column). k.next) same in
     record {
       read = b.first ∙ ap {B = Answer Image} done image;
-      behind = sym place-behind;
+      behind = sym place_behind;
       within = λ h. omega (arith, column_inside column l b.first, length-drop place bytes);
     }
 
@@ -418,7 +418,7 @@ module _ {bytes : List ℕ} {count : ℕ} {images : List Image} {place body colu
         stored =
             ap (λ (a : List Image). set a column im) r.stored
             ∙ ap (λ (k : ℕ). set (filled max_columns no_image r.ims) k im) (sym r.as_many)
-            ∙ filled-set no_image max_columns r.ims im (omega (arith, r.as_many));
+            ∙ filled_set no_image max_columns r.ims im (omega (arith, r.as_many));
         as_many = length-append r.ims (im ∷ []) ∙ ap (λ (k : ℕ). k + 1) r.as_many;
         size = omega (arith, r.size, body_more r.ims im);
         few = omega (arith, r.few);
@@ -434,12 +434,12 @@ module _ {bytes : List ℕ} {count : ℕ} {images : List Image} {place body colu
       }
 
   -- a column is refused
-  pub reading-refused :
+  pub reading_refused :
       {number at_place : ℕ}
       → column < count
       → column_at column place bytes ≡ refused number at_place
       → read_columns count 0 (drop 1 bytes) ≡ refused number at_place
-  reading-refused h e =
+  reading_refused h e =
       let l = drop place bytes in
       let left-now : count - column ≡ suc (count - (column + 1)) = omega arith in
       sym r.left
@@ -456,9 +456,9 @@ module _ {bytes : List ℕ} {count : ℕ} {images : List Image} {place body colu
       ∙ ap {B = Answer (List Image)} done (append-nil r.ims)
 
   -- and the place is the length of the contents
-  pub reading-length : count ≤ column → place ≡ suc (columns_length count (drop 1 bytes))
+  pub reading_length : count ≤ column → place ≡ suc (columns_length count (drop 1 bytes))
   unfolding columns_length
-  reading-length h =
+  reading_length h =
       let none_left : count - column ≡ 0 = omega arith in
       let none-long : columns_length (count - column) (drop place bytes) ≡ 0 = ap (λ (k : ℕ). columns_length k (drop place bytes)) none_left in
       omega (arith, r.lengths)
@@ -522,5 +522,5 @@ contents_made bytes {images} {place} {body} {column} some low high r h =
     let columns : all ≡ length r.ims = omega (arith, r.as_many, r.inside) in
     let table : Table = record { images = r.ims; size = suc (columns_length all (drop 1 bytes)) } in
     let made : ◌≡◌ {A = Contents} (record { answer = checks.Fine; images = record { values = images; count = all }; size = place; body = body }) (contents_of (done table)) =
-    λ i. record { answer = checks.Fine; images = record { values = r.stored i; count = columns i }; size = reading-length r h i; body = r.size i } in
+    λ i. record { answer = checks.Fine; images = record { values = r.stored i; count = columns i }; size = reading_length r h i; body = r.size i } in
     made ∙ sym (ap contents_of (contents_read bytes some low high (reading_ends r h)))

@@ -27,7 +27,7 @@ use Rattle.codec.specs.Contents.{Table, read_column, column_length, read_columns
 use Rattle.codec.specs.Order.{Bytes}
 use Rattle.codec.specs.Alpha.{fraction_length, tail_length, text_length, line_length}
 use Rattle.codec.proofs.AlphaLaws.{fraction_few, exponent_few, image_length}
-use Rattle.codec.proofs.ContentsLaws.{sign_few, columns_checked, contents_stopped, alone_told, alone-same}
+use Rattle.codec.proofs.ContentsLaws.{sign_few, columns_checked, contents_stopped, alone_told, alone_same}
 
 -- A column.
 
@@ -89,13 +89,13 @@ module _ (im : Image) (rest : List ℕ) where
       ∙ reads_image column is checked.fits
 
   -- it is as long as they are
-  entry-size : column_length (entry_bytes im ++ rest) ≡ length (entry_bytes im)
+  entry_size : column_length (entry_bytes im ++ rest) ≡ length (entry_bytes im)
   unfolding entry_bytes column_length
-  entry-size = refl
+  entry_size = refl
 
   -- and ends behind them
-  entry-behind : drop (column_length (entry_bytes im ++ rest)) (entry_bytes im ++ rest) ≡ rest
-  entry-behind = ap (λ (n : ℕ). drop n (entry_bytes im ++ rest)) entry-size ∙ drop-append_seam (entry_bytes im) rest
+  entry_behind : drop (column_length (entry_bytes im ++ rest)) (entry_bytes im ++ rest) ≡ rest
+  entry_behind = ap (λ (n : ℕ). drop n (entry_bytes im ++ rest)) entry_size ∙ drop-append_seam (entry_bytes im) rest
 
 -- The columns.
 
@@ -145,7 +145,7 @@ unfolding read_columns entries_bytes ◌then◌
 entries_read none column rest = refl
 entries_read (more {im} {ims} c cs) column rest =
     let behind = entries_bytes ims ++ rest in
-    rw (append_assoc (entry_bytes im) (entries_bytes ims) rest, entry_read im behind column c, entry-behind im behind, entries_read cs (suc column) rest)
+    rw (append_assoc (entry_bytes im) (entries_bytes ims) rest, entry_read im behind column c, entry_behind im behind, entries_read cs (suc column) rest)
 
 -- and are as long as they are
 entries_size : (ims : List Image) (rest : List ℕ) → columns_length (length ims) (entries_bytes ims ++ rest) ≡ length (entries_bytes ims)
@@ -153,7 +153,7 @@ unfolding columns_length entries_bytes
 entries_size [] rest = refl
 entries_size (im ∷ ims) rest =
     let behind = entries_bytes ims ++ rest in
-    rw (append_assoc (entry_bytes im) (entries_bytes ims) rest, entry-behind im behind, entry-size im behind, entries_size ims rest)
+    rw (append_assoc (entry_bytes im) (entries_bytes ims) rest, entry_behind im behind, entry_size im behind, entries_size ims rest)
     (sym (length-append (entry_bytes im) (entries_bytes ims)))
 
 -- The contents.
@@ -301,7 +301,7 @@ alone_exactly bytes {table} = (there, back)
 
     back : Alone bytes table → read_alone bytes ≡ done table
     back a =
-        alone-same bytes
+        alone_same bytes
         (begins_contents bytes
         (record {
           own = bytes;
@@ -376,6 +376,7 @@ entries_many :
     → (column : ℕ) (rest : List ℕ)
     → read_columns (length ims) column (entries_bytes ims ++ rest) ≡ refused 2 (column + i)
 unfolding read_columns entries_bytes ◌then◌
+entries_many AllImages.none h column rest = elim h [ ]
 entries_many (AllImages.more {im} {ims} some others) (FirstMany.here many) column rest =
     rw (append_assoc (entry_bytes im) (entries_bytes ims) rest, entry_many im (entries_bytes ims ++ rest) column some many)
     (ap (λ (n : ℕ). refused 2 n) (omega arith))
@@ -385,7 +386,7 @@ entries_many (AllImages.more {im} {ims} some others) (FirstMany.later {i = i} fe
     rw (
       append_assoc (entry_bytes im) (entries_bytes ims) rest,
       entry_read im behind column c,
-      entry-behind im behind,
+      entry_behind im behind,
       entries_many others first (suc column) rest,
     )
     (ap (λ (n : ℕ). refused 2 n) (omega arith))

@@ -17,20 +17,20 @@ use Rattle.codec.specs.Lists.{max_columns}
 use Rattle.codec.specs.Text.{LongestForm, reading_in, legal_length}
 use Rattle.codec.specs.Walking.{Walk, stop_before, stopped, numbers_in, walking, walk_meaning, Foremost, Cut}
 use Rattle.codec.proofs.LongestTheorem.{longest, longest_unique, empty_length}
-use Rattle.codec.proofs.ReadingTheorem.{beginning-size, beginning-value, some-beginning}
-use Rattle.codec.proofs.WalkLaws.{stop-end, stop-none, stop-many, behind, numbers-stop, numbers-full, numbers-number, numbers-refused}
+use Rattle.codec.proofs.ReadingTheorem.{beginning_size, beginning_value, some_beginning}
+use Rattle.codec.proofs.WalkLaws.{stop_end, stop-none, stop-many, behind, numbers_stop, numbers_full, numbers-number, numbers-refused}
 
 -- The longest beginning.
 
 -- where a text number begins, it is foremost
 foremost : (bytes : List ℕ) → (legal_length bytes ≡ 0 → ⊥) → {a : Answer Number} → (reading_in bytes).number ≡ a → Foremost bytes (legal_length bytes) a
 foremost bytes some e =
-    let b = some-beginning bytes some in
-    record { parts = b.0; beginning = b.1; value = sym (beginning-value bytes b.1) ∙ e }
+    let b = some_beginning bytes some in
+    record { parts = b.0; beginning = b.1; value = sym (beginning_value bytes b.1) ∙ e }
 
 -- and the one that is foremost is read: its length
 foremost_size : {bytes : List ℕ} {size : ℕ} {a : Answer Number} → Foremost bytes size a → legal_length bytes ≡ size
-foremost_size {bytes} f = sym (beginning-size bytes f.beginning)
+foremost_size {bytes} f = sym (beginning_size bytes f.beginning)
 
 -- so one begins
 foremost_some : {bytes : List ℕ} {size : ℕ} {a : Answer Number} → Foremost bytes size a → legal_length bytes ≡ 0 → ⊥
@@ -38,7 +38,7 @@ foremost_some f none = omega (arith, foremost_size f, f.beginning.some)
 
 -- and its number
 foremost_number : {bytes : List ℕ} {size : ℕ} {a : Answer Number} → Foremost bytes size a → (reading_in bytes).number ≡ a
-foremost_number {bytes} f = beginning-value bytes f.beginning ∙ f.value
+foremost_number {bytes} f = beginning_value bytes f.beginning ∙ f.value
 
 -- What walking gives.
 
@@ -48,45 +48,45 @@ module _ (text : List ℕ) where
   CutBy index place w = Cut text index place w.numbers w.place (walk_meaning w.answer)
 
   -- where reading stops, the cut does
-  stop-cut : (index place : ℕ) (answer : WalkAnswer) → Cut text index place [] place (walk_meaning answer) → CutBy index place (stopped answer place)
+  stop_cut : (index place : ℕ) (answer : WalkAnswer) → Cut text index place [] place (walk_meaning answer) → CutBy index place (stopped answer place)
   unfolding stopped
-  stop-cut index place answer h = h
+  stop_cut index place answer h = h
 
   -- no text number begins there
-  none-cut : (index place : ℕ) → legal_length (drop place text) ≡ 0 → CutBy index place (stopped (stop_before (drop place text)) place)
-  none-cut index place none =
+  none_cut : (index place : ℕ) → legal_length (drop place text) ≡ 0 → CutBy index place (stopped (stop_before (drop place text)) place)
+  none_cut index place none =
       ⊎_elim
       (λ (end : length text ≤ place).
-      subst (λ (a : WalkAnswer). CutBy index place (stopped a place)) (stop-end text place end) (stop-cut index place gives.End (Cut.ends end)))
+      subst (λ (a : WalkAnswer). CutBy index place (stopped a place)) (stop_end text place end) (stop_cut index place gives.End (Cut.ends end)))
       (λ (inside : place < length text).
       subst (λ (a : WalkAnswer). CutBy index place (stopped a place)) (stop-none text place inside none)
-      (stop-cut index place gives.NoNumber
+      (stop_cut index place gives.NoNumber
       (Cut.none inside (subst (λ (n : ℕ). LongestForm (drop place text) n) none (longest (drop place text))))))
       (le_or_lt (length text) place)
 
   -- what is read is inside the text
-  some-inside : (place : ℕ) → (legal_length (drop place text) ≡ 0 → ⊥) → place < length text
-  some-inside place some = omega (arith, (longest (drop place text)).inside, length-drop place text)
+  some_inside : (place : ℕ) → (legal_length (drop place text) ≡ 0 → ⊥) → place < length text
+  some_inside place some = omega (arith, (longest (drop place text)).inside, length-drop place text)
 
   -- one more begins there, and there is no room
-  full-cut : (index place : ℕ) → max_columns ≤ index → (legal_length (drop place text) ≡ 0 → ⊥) → CutBy index place (stopped (stop_before (drop place text)) place)
-  full-cut index place full some =
-      subst (λ (a : WalkAnswer). CutBy index place (stopped a place)) (stop-many text place (some-inside place some) some)
-      (stop-cut index place gives.TooMany (Cut.full full (foremost (drop place text) some refl)))
+  full_cut : (index place : ℕ) → max_columns ≤ index → (legal_length (drop place text) ≡ 0 → ⊥) → CutBy index place (stopped (stop_before (drop place text)) place)
+  full_cut index place full some =
+      subst (λ (a : WalkAnswer). CutBy index place (stopped a place)) (stop-many text place (some_inside place some) some)
+      (stop_cut index place gives.TooMany (Cut.full full (foremost (drop place text) some refl)))
 
   -- a number before the others
-  behind-cut : {index place size : ℕ} {n : Number} (w : Walk) → index < max_columns → Foremost (drop place text) size (done n) → CutBy (suc index) (place + size) w → CutBy index place (behind (n ∷ []) w)
+  behind_cut : {index place size : ℕ} {n : Number} (w : Walk) → index < max_columns → Foremost (drop place text) size (done n) → CutBy (suc index) (place + size) w → CutBy index place (behind (n ∷ []) w)
   unfolding behind
-  behind-cut w room f h = Cut.more room f h
+  behind_cut w room f h = Cut.more room f h
 
   -- one begins there, and there is room
-  some-cut :
+  some_cut :
       (left index place : ℕ)
       → index < max_columns
       → (legal_length (drop place text) ≡ 0 → ⊥)
       → ((next : ℕ) → CutBy (suc index) next (numbers_in left (suc index) next (drop next text)))
       → CutBy index place (numbers_in (suc left) index place (drop place text))
-  some-cut left index place room some others = go (reading_in (drop place text)).number refl
+  some_cut left index place room some others = go (reading_in (drop place text)).number refl
     where
       bytes : List ℕ
       bytes = drop place text
@@ -96,25 +96,25 @@ module _ (text : List ℕ) where
           let next = place + legal_length bytes in
           let rest : drop next text ≡ drop (legal_length bytes) bytes = sym (drop-drop (legal_length bytes) place text) in
           subst (λ (w : Walk). CutBy index place w) (sym (numbers-number index place bytes left some e))
-          (behind-cut (numbers_in left (suc index) next (drop (legal_length bytes) bytes)) room (foremost bytes some e)
+          (behind_cut (numbers_in left (suc index) next (drop (legal_length bytes) bytes)) room (foremost bytes some e)
           (subst (λ (l : List ℕ). CutBy (suc index) next (numbers_in left (suc index) next l)) rest (others next)))
       go (refused number other) e =
           subst (λ (w : Walk). CutBy index place w) (sym (numbers-refused index place bytes left some e))
-          (stop-cut index place (gives.Refused (record { number = number; place = index })) (Cut.stops room (foremost bytes some e)))
+          (stop_cut index place (gives.Refused (record { number = number; place = index })) (Cut.stops room (foremost bytes some e)))
 
   -- each walk is a cut
-  numbers-cut : (left index place : ℕ) → left + index ≡ max_columns → CutBy index place (numbers_in left index place (drop place text))
-  numbers-cut zero index place room =
+  numbers_cut : (left index place : ℕ) → left + index ≡ max_columns → CutBy index place (numbers_in left index place (drop place text))
+  numbers_cut zero index place room =
       let bytes = drop place text in
-      subst (λ (w : Walk). CutBy index place w) (sym (numbers-full index place bytes))
-      (⊎_elim (none-cut index place) (full-cut index place (omega arith)) (zero_or_not (legal_length bytes)))
-  numbers-cut (suc left) index place room =
+      subst (λ (w : Walk). CutBy index place w) (sym (numbers_full index place bytes))
+      (⊎_elim (none_cut index place) (full_cut index place (omega arith)) (zero_or_not (legal_length bytes)))
+  numbers_cut (suc left) index place room =
       let bytes = drop place text in
       ⊎_elim
       (λ (none : legal_length bytes ≡ 0).
-      subst (λ (w : Walk). CutBy index place w) (sym (numbers-stop index place bytes (suc left) none)) (none-cut index place none))
+      subst (λ (w : Walk). CutBy index place w) (sym (numbers_stop index place bytes (suc left) none)) (none_cut index place none))
       (λ (some : legal_length bytes ≡ 0 → ⊥).
-      some-cut left index place (omega arith) some (λ next. numbers-cut left (suc index) next (omega arith)))
+      some_cut left index place (omega arith) some (λ next. numbers_cut left (suc index) next (omega arith)))
       (zero_or_not (legal_length bytes))
 
 -- There is one cut.
@@ -147,34 +147,34 @@ behind_gives {n = n} e g =
 
 module _ (text : List ℕ) where
   -- each cut is what the walk gives
-  cut-numbers :
+  cut_numbers :
       {index place stop : ℕ} {ns : List Number} {answer : Answer (Unit {0})}
       → Cut text index place ns stop answer
       → (left : ℕ)
       → left + index ≡ max_columns
       → Gives (numbers_in left index place (drop place text)) ns stop answer
-  cut-numbers (Cut.ends {index} {place} end) left room =
+  cut_numbers (Cut.ends {index} {place} end) left room =
       let none = ap legal_length (drop_of_length-le text end) ∙ empty_length in
-      stopped_gives gives.End place (numbers-stop index place (drop place text) left none ∙ ap (λ (a : WalkAnswer). stopped a place) (sym (stop-end text place end)))
-  cut-numbers (Cut.none {index} {place} inside zero-long) left room =
+      stopped_gives gives.End place (numbers_stop index place (drop place text) left none ∙ ap (λ (a : WalkAnswer). stopped a place) (sym (stop_end text place end)))
+  cut_numbers (Cut.none {index} {place} inside zero-long) left room =
       let none = longest_unique (longest (drop place text)) zero-long in
-      stopped_gives gives.NoNumber place (numbers-stop index place (drop place text) left none ∙ ap (λ (a : WalkAnswer). stopped a place) (sym (stop-none text place inside none)))
-  cut-numbers (Cut.full {index} {place} full f) left room =
+      stopped_gives gives.NoNumber place (numbers_stop index place (drop place text) left none ∙ ap (λ (a : WalkAnswer). stopped a place) (sym (stop-none text place inside none)))
+  cut_numbers (Cut.full {index} {place} full f) left room =
       let some = foremost_some f in
       let no_room : left ≡ 0 = omega arith in
       stopped_gives gives.TooMany place
       (ap (λ (n : ℕ). numbers_in n index place (drop place text)) no_room
-      ∙ numbers-full index place (drop place text)
-      ∙ ap (λ (a : WalkAnswer). stopped a place) (sym (stop-many text place (some-inside text place some) some)))
-  cut-numbers (Cut.stops {index} {place} {number = number} more f) left room =
+      ∙ numbers_full index place (drop place text)
+      ∙ ap (λ (a : WalkAnswer). stopped a place) (sym (stop-many text place (some_inside text place some) some)))
+  cut_numbers (Cut.stops {index} {place} {number = number} more f) left room =
       let one_left : left ≡ suc (left - 1) = omega arith in
       stopped_gives (gives.Refused (record { number = number; place = index })) place
       (ap (λ (n : ℕ). numbers_in n index place (drop place text)) one_left
       ∙ numbers-refused index place (drop place text) (left - 1) (foremost_some f) (foremost_number f))
-  cut-numbers (Cut.more {index} {place} {size} {n = n} more f others) left room =
+  cut_numbers (Cut.more {index} {place} {size} {n = n} more f others) left room =
       let bytes = drop place text in
       let one_left : left ≡ suc (left - 1) = omega arith in
-      let rest = cut-numbers others (left - 1) (omega arith) in
+      let rest = cut_numbers others (left - 1) (omega arith) in
       behind_gives
       (ap (λ (n : ℕ). numbers_in n index place bytes) one_left
       ∙ numbers-number index place bytes (left - 1) (foremost_some f) (foremost_number f)
@@ -186,7 +186,7 @@ module _ (text : List ℕ) where
 pub walking_exactly : (text : List ℕ) (from : ℕ) {ns : List Number} {stop : ℕ} {answer : Answer (Unit {0})}
     → Cut text 0 from ns stop answer ↔ Gives (walking text from) ns stop answer
 unfolding walking
-walking_exactly text from {ns} {stop} {answer} = (λ cut. cut-numbers text cut max_columns refl, λ g. back (numbers-cut text max_columns 0 from refl) g)
+walking_exactly text from {ns} {stop} {answer} = (λ cut. cut_numbers text cut max_columns refl, λ g. back (numbers_cut text max_columns 0 from refl) g)
   where
     back : {w : Walk} → CutBy text 0 from w → Gives w ns stop answer → Cut text 0 from ns stop answer
     back {w} cut g =

@@ -18,7 +18,7 @@ use Rattle.decimal.proofs.PowerLaws.{pow10_pos, pow10_add, pow10_mono}
 use Rattle.decimal.proofs.DigitLaws.{value_of_digits}
 use Rattle.decimal.proofs.PackedLaws.{halves_of_digits}
 use Rattle.decimal.proofs.NumberLaws.{normal_high}
-use Rattle.decimal.proofs.TruncationLaws.{fit-truncation, fit-exponential, stored-zero, stored-exponential, stored-fixed}
+use Rattle.decimal.proofs.TruncationLaws.{fit_truncation, fit_exponential, stored_zero, stored_exponential, stored_fixed}
 use Rattle.decimal.proofs.KeptLaws.{kept-size, kept_whole}
 use Rattle.codec.specs.Packing.{Held, held_by}
 
@@ -30,37 +30,37 @@ cut_below m p c h high some few =
 
 -- fixed point has x = 0
 pub fixed_stored : (im : Image) (n : Number) → im.exponential ≡ false → stored_exponent im n ≡ exponent_limit
-fixed_stored im n kind = ⊎_elim (λ z. stored-zero im n z) (λ nz. stored-fixed im n nz kind) (zero_or_not n.mantissa)
+fixed_stored im n kind = ⊎_elim (λ z. stored_zero im n z) (λ nz. stored_fixed im n nz kind) (zero_or_not n.mantissa)
 
 module _ (im : Image) (n : Number) (fit : Fit im n) where
   -- k has at most n digits
-  pub whole-size : whole_of im n < 10 ^ hashes im
-  whole-size =
+  pub whole_size : whole_of im n < 10 ^ hashes im
+  whole_size =
       rw (kept_whole im n fit)
       (cut_below n.mantissa precision (kept_count im n) (hashes im) (normal_high n fit.number_checked) (kept-size im n fit) fit.size)
 
   -- x is at most its upper limit
-  pub stored-top : stored_exponent im n ≤ 2 * exponent_limit
-  stored-top = ⊎_elim (λ z. omega (arith, stored-zero im n z)) (λ nz. go nz im.exponential refl) (zero_or_not n.mantissa)
+  pub stored_top : stored_exponent im n ≤ 2 * exponent_limit
+  stored_top = ⊎_elim (λ z. omega (arith, stored_zero im n z)) (λ nz. go nz im.exponential refl) (zero_or_not n.mantissa)
     where
       go : (n.mantissa ≡ 0 → ⊥) → (b : Bool) → im.exponential ≡ b → stored_exponent im n ≤ 2 * exponent_limit
-      go nz true kind = omega (arith, stored-exponential im n nz kind, fit-exponential im n fit kind nz)
-      go nz false kind = omega (arith, stored-fixed im n nz kind)
+      go nz true kind = omega (arith, stored_exponential im n nz kind, fit_exponential im n fit kind nz)
+      go nz false kind = omega (arith, stored_fixed im n nz kind)
 
   -- k has at most as many digits as a mantissa
-  whole-small : (truncated_to im n).whole < 10 ^ precision
+  whole_small : (truncated_to im n).whole < 10 ^ precision
   unfolding truncated_to
-  whole-small = lt_of_lt_of_le whole-size (pow10_mono fit.size)
+  whole_small = lt_of_lt_of_le whole_size (pow10_mono fit.size)
 
   -- its digits are those that the code's half bytes hold
-  value-held : value_of (halves_in precision (packed_of (digits_of precision (truncated_to im n).whole))) ≡ (truncated_to im n).whole
-  value-held =
-      ap value_of (halves_of_digits precision (truncated_to im n).whole) ∙ value_of_digits precision (truncated_to im n).whole whole-small
+  value_held : value_of (halves_in precision (packed_of (digits_of precision (truncated_to im n).whole))) ≡ (truncated_to im n).whole
+  value_held =
+      ap value_of (halves_of_digits precision (truncated_to im n).whole) ∙ value_of_digits precision (truncated_to im n).whole whole_small
 
   module _ (r : Truncation) (made : r ≡ truncation_of (truncation 0 im n)) where
     -- the code's truncation of a number that fits
     truncated-made : r ≡ truncation_of (done (truncated_to im n))
-    truncated-made = made ∙ ap truncation_of (fit-truncation 0 im n fit)
+    truncated-made = made ∙ ap truncation_of (fit_truncation 0 im n fit)
 
     -- a column can be made of it
     pub truncation-held : Held im r
@@ -69,9 +69,9 @@ module _ (im : Image) (n : Number) (fit : Fit im n) where
         subst⁻¹ (λ (k : Truncation). Held im k) truncated-made
         (record {
           size = fit.size;
-          digits = sym (ap (λ (k : ℕ). packed_of (digits_of precision k)) value-held);
-          below = subst⁻¹ (λ (k : ℕ). k < 10 ^ hashes im) value-held whole-size;
-          range = stored-top;
+          digits = sym (ap (λ (k : ℕ). packed_of (digits_of precision k)) value_held);
+          below = subst⁻¹ (λ (k : ℕ). k < 10 ^ hashes im) value_held whole_size;
+          range = stored_top;
         })
 
     -- and it is the truncation
@@ -82,6 +82,6 @@ module _ (im : Image) (n : Number) (fit : Fit im n) where
         ∙ (λ i.
         record {
           negative = (truncated_to im n).negative;
-          whole = value-held i;
+          whole = value_held i;
           x = (truncated_to im n).x;
         })

@@ -27,7 +27,7 @@ use Rattle.codec.proofs.AlphaLaws.{digit_bytes_length}
 use Rattle.codec.proofs.PartLaws.{digits_left, digits_right, blanks_go, digits_go}
 use Rattle.codec.proofs.PartLaws.{Starts, Stops, stops_end, stops_blanks, stops_power, starts_body, sign_go, sign_no_blank, power_empty, power_blanks}
 use Rattle.codec.proofs.PartLaws.{point_no_digits, point_exact, power_exact, blanks_read, digits_read, sign_read, point_read, power_read}
-use Rattle.codec.proofs.TextLaws.{text_long, legal-none, legal-some, reading-empty, reading-number, convert-whole}
+use Rattle.codec.proofs.TextLaws.{text_long, legal_none, legal_some, reading_empty, reading_number, convert_whole}
 
 -- The parts of a text are read.
 
@@ -243,7 +243,7 @@ form_of_parts bytes some =
     record {
       legal = read_legal bytes some;
       written =
-          ap (λ (n : ℕ). take n bytes) (legal-some bytes some)
+          ap (λ (n : ℕ). take n bytes) (legal_some bytes some)
           ∙ ap (λ (l : List ℕ). take (length text) l) (sym front.1)
           ∙ take-append_seam text front.0;
     }
@@ -254,7 +254,7 @@ form_of_parts bytes some =
 pub form_length : {bytes : List ℕ} {t : TextParts} → HasForm bytes t → legal_length bytes ≡ length bytes
 form_length {bytes} {t} form =
     let parts = parts_of_form form in
-    legal-some bytes (λ e. omega (arith, ap (λ (u : TextParts). length (all_digits_of u.numeral)) parts, form.legal.some))
+    legal_some bytes (λ e. omega (arith, ap (λ (u : TextParts). length (all_digits_of u.numeral)) parts, form.legal.some))
     ∙ ap (λ (u : TextParts). length (text_bytes u)) parts
     ∙ ap length (sym form.written)
 
@@ -266,7 +266,7 @@ form_some {bytes} {t} form = omega (arith, ap length form.written, text_long t, 
 pub converts_form : {bytes : List ℕ} {t : TextParts} → HasForm bytes t → convert_text bytes ≡ text_value t
 converts_form {bytes} {t} form =
     let size = form_length form in
-    convert-whole bytes size ∙ reading-number bytes (λ e. omega (arith, form_some form)) ∙ ap text_value (parts_of_form form)
+    convert_whole bytes size ∙ reading_number bytes (λ e. omega (arith, form_some form)) ∙ ap text_value (parts_of_form form)
 
 -- Published: bytes that have not the form convert to 8.
 pub converts_none : (bytes : List ℕ) → ((t : TextParts) → HasForm bytes t → ⊥) → convert_text bytes ≡ refused 8 0
@@ -277,13 +277,13 @@ converts_none bytes none = go (eqb (legal_length bytes) (length bytes)) refl
     go false e = refl
     go true e =
         ⊎_elim
-        (λ (empty : legal_length bytes ≡ 0). ap (λ (r : TextReading). r.number) (reading-empty bytes empty))
+        (λ (empty : legal_length bytes ≡ 0). ap (λ (r : TextReading). r.number) (reading_empty bytes empty))
         (λ (some : legal_length bytes ≡ 0 → ⊥).
         let size = eqb-true (legal_length bytes) (length bytes) e in
         let all : take (legal_length bytes) bytes ≡ bytes = ap (λ (n : ℕ). take n bytes) size ∙ take-length bytes in
         absurd
         (none (parts_in bytes)
-        (subst (λ (l : List ℕ). HasForm l (parts_in bytes)) all (form_of_parts bytes (λ z. some (legal-none bytes z))))))
+        (subst (λ (l : List ℕ). HasForm l (parts_in bytes)) all (form_of_parts bytes (λ z. some (legal_none bytes z))))))
         (zero_or_not (legal_length bytes))
 
 -- a picked answer that is done is the first
@@ -300,10 +300,10 @@ converts_normal bytes {n} h =
     let read : (reading_in bytes).number ≡ done n = picked_done (eqb (legal_length bytes) (length bytes)) (reading_in bytes).number h in
     ⊎_elim
     (λ (empty : legal_length bytes ≡ 0).
-    let eight : (reading_in bytes).number ≡ refused 8 0 = ap (λ (r : TextReading). r.number) (reading-empty bytes empty) in
+    let eight : (reading_in bytes).number ≡ refused 8 0 = ap (λ (r : TextReading). r.number) (reading_empty bytes empty) in
     let z : ◌≡◌ {A = ℕ} 0 1 = cc in
     absurd (omega arith))
     (λ (some : legal_length bytes ≡ 0 → ⊥).
     scaled-normal 0 (is_minus t.sign) (value_of (all_digits_of u)) (power_value u.power) (exponent_limit + length (fraction_digits u.fraction))
-    (sym (reading-number bytes some) ∙ read))
+    (sym (reading_number bytes some) ∙ read))
     (zero_or_not (legal_length bytes))

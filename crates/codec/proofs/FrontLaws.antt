@@ -11,7 +11,7 @@ use Rattle.codec.specs.Columns.{body_size, AllChecked, none, more}
 use Rattle.codec.specs.Contents.{Table, read_contents, read_alone, check_images}
 use Rattle.codec.specs.Alpha.{line_length}
 use Rattle.codec.proofs.UnderLaws.{checked_checks}
-use Rattle.codec.proofs.ContentsLaws.{contents_sound, alone-same, column_some}
+use Rattle.codec.proofs.ContentsLaws.{contents_sound, alone_same, column_some}
 use Rattle.codec.proofs.ContentsTheorem.{contents_exactly, contents_length}
 
 -- Published: a contents depends on its own bytes alone.
@@ -65,7 +65,7 @@ contents_front bytes rest {table} h =
 pub contents_alone : (bytes : List ℕ) {table : Table} → read_contents bytes ≡ done table → read_alone (take table.size bytes) ≡ done table
 contents_alone bytes {table} h =
     let own = take table.size bytes in
-    alone-same own (contents_same bytes own h (take-take table.size table.size bytes (omega arith)))
+    alone_same own (contents_same bytes own h (take-take table.size table.size bytes (omega arith)))
     (sym (length-take-le table.size bytes (contents_within bytes h)))
 
 -- The images of a contents that is read.

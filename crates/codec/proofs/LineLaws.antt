@@ -13,14 +13,14 @@ use Rattle.decimal.specs.Answer.{Answer, done, ◌then◌}
 use Rattle.decimal.specs.Image.{hashes, image_bytes}
 use Rattle.decimal.specs.Truncation.{truncated_to}
 use Rattle.decimal.proofs.ImageLaws.{reads_image}
-use Rattle.decimal.proofs.TruncationLaws.{fit-truncation}
+use Rattle.decimal.proofs.TruncationLaws.{fit_truncation}
 use Rattle.codec.specs.Columns.{Checked, AllChecked, sign_count, exponent_count, column_size, body_size}
 use Rattle.codec.specs.Unpacking.{unpack_columns, unpack_body}
 use Rattle.codec.specs.Alpha.{blank_byte, alpha_text, alpha_under, alpha_of, alpha_texts, parted, fraction_length, exponent_length, tail_length, text_length, line_length}
 use Rattle.decimal.proofs.AnswerLaws.{then_done}
 use Rattle.codec.proofs.ColumnTheorem.{column-packs}
 use Rattle.codec.proofs.ReadBackTheorem.{body_view, unpack_view}
-use Rattle.codec.proofs.AlphaLaws.{under-done, alpha-under-length, alpha-read, fraction_few}
+use Rattle.codec.proofs.AlphaLaws.{under_done, alpha_under_length, alpha-read, fraction_few}
 use Rattle.codec.proofs.ContentsLaws.{sign_few}
 
 -- One text.
@@ -42,9 +42,9 @@ pub record TextsStep (im : Image) (ims : List Image) (n : Number) (ns : List Num
 
 module _ (im : Image) (ims : List Image) (checked : Checked im) (n : Number) (ns : List Number) where
   -- what texts tell of the first
-  pub texts-view : {texts : List (List ℕ)} → alpha_texts (im ∷ ims) (n ∷ ns) ≡ done texts → TextsStep im ims n ns texts
+  pub texts_view : {texts : List (List ℕ)} → alpha_texts (im ∷ ims) (n ∷ ns) ≡ done texts → TextsStep im ims n ns texts
   unfolding alpha_texts
-  texts-view {texts} h =
+  texts_view {texts} h =
       let one = then_done (alpha_of (image_bytes im) n) (λ (text : List ℕ). alpha_texts ims ns then λ (others : List (List ℕ)). done (text ∷ others)) h in
       let two = then_done (alpha_texts ims ns) (λ (others : List (List ℕ)). done (one.value ∷ others)) one.second in
       let last : ◌≡◌ {A = Answer (List (List ℕ))} (done (one.value ∷ two.value)) (done texts) = two.second in
@@ -57,13 +57,13 @@ module _ (im : Image) (ims : List Image) (checked : Checked im) (n : Number) (ns
       }
 
   -- and the other way
-  pub texts-step :
+  pub texts_step :
       {text : List ℕ} {others : List (List ℕ)}
       → alpha_under im n ≡ done text
       → alpha_texts ims ns ≡ done others
       → alpha_texts (im ∷ ims) (n ∷ ns) ≡ done (text ∷ others)
   unfolding alpha_texts ◌then◌
-  texts-step p q = rw (alpha_under_lem checked n ∙ p, q)
+  texts_step p q = rw (alpha_under_lem checked n ∙ p, q)
 
 -- one text per column
 pub texts_count :
@@ -77,7 +77,7 @@ unfolding alpha_texts
 texts_count AllChecked.none ns {texts} same h = let e : [] ≡ texts = cc in sym (ap length e)
 texts_count (AllChecked.more checked others) [] same h = absurd (omega arith)
 texts_count (AllChecked.more {im} {ims} checked others) (n ∷ ns) same h =
-    let step = texts-view im ims checked n ns h in
+    let step = texts_view im ims checked n ns h in
     sym (ap length step.joined) ∙ ap suc (texts_count others ns (suc_inj same) step.rest)
 
 -- one more text and a blank
@@ -100,14 +100,14 @@ line_from text AllChecked.none ns {texts} same h =
     omega arith
 line_from text (AllChecked.more checked others) [] same h = absurd (omega arith)
 line_from text (AllChecked.more {im} {ims} checked others) (n ∷ ns) same h =
-    let step = texts-view im ims checked n ns h in
+    let step = texts_view im ims checked n ns h in
     let line = ap (λ (l : List (List ℕ)). length (parted (text ∷ l))) step.joined in
     omega (
       arith,
       line,
       parted_more text step.text step.others,
       line_from step.text others ns (suc_inj same) step.rest,
-      alpha-under-length im n step.first,
+      alpha_under_length im n step.first,
     )
 
 -- Published: the texts with a byte between them and one behind the last are as long as the images say.
@@ -123,9 +123,9 @@ unfolding line_length
 texts_length AllChecked.none ns some same h = absurd (omega arith)
 texts_length (AllChecked.more checked others) [] some same h = absurd (omega arith)
 texts_length (AllChecked.more {im} {ims} checked others) (n ∷ ns) some same h =
-    let step = texts-view im ims checked n ns h in
+    let step = texts_view im ims checked n ns h in
     let line = ap (λ (l : List (List ℕ)). length (parted l)) step.joined in
-    omega (arith, line, line_from step.text others ns (suc_inj same) step.rest, alpha-under-length im n step.first)
+    omega (arith, line, line_from step.text others ns (suc_inj same) step.rest, alpha_under_length im n step.first)
 
 -- The texts of numbers that a body holds.
 
@@ -157,11 +157,11 @@ columns_texts column (AllChecked.more {im} {ims} checked others) body {ns} sized
     let front : length (take k body) ≡ k = length-take-le k body (omega arith) in
     let left : length (drop k body) ≡ body_size ims = length-drop k body ∙ omega arith in
     let packing = column-packs im checked column (take k body) step.number front step.first in
-    let text = under-done im step.number (fit-truncation 0 im step.number packing.fit) in
+    let text = under_done im step.number (fit_truncation 0 im step.number packing.fit) in
     let rest = columns_texts (suc column) others (drop k body) left step.others in (
       alpha_text im (truncated_to im step.number) ∷ rest.0,
       subst (λ (l : List Number). alpha_texts (im ∷ ims) l ≡ done (alpha_text im (truncated_to im step.number) ∷ rest.0)) step.joined
-          (texts-step im ims checked step.number step.numbers text rest.1),
+          (texts_step im ims checked step.number step.numbers text rest.1),
     )
 
 -- Published: the numbers that a body is read as have alpha texts.

@@ -15,11 +15,11 @@ default_free (x ∷ xs) (suc i) d e h = default_free xs i d e (omega arith)
 
 module _ {A : Type 0} (d : A) where
   -- an array has its length
-  pub filled-length : (n : ℕ) (xs : List A) → length (filled n d xs) ≡ n
+  pub filled_length : (n : ℕ) (xs : List A) → length (filled n d xs) ≡ n
   unfolding filled
-  filled-length zero xs = refl
-  filled-length (suc n) [] = ap suc (filled-length n [])
-  filled-length (suc n) (x ∷ xs) = ap suc (filled-length n xs)
+  filled_length zero xs = refl
+  filled_length (suc n) [] = ap suc (filled_length n [])
+  filled_length (suc n) (x ∷ xs) = ap suc (filled_length n xs)
 
   -- an element of the array is the list's, and the default behind its end
   pub filled_at : (n : ℕ) (xs : List A) (i : ℕ) (e : A) → i < n → get_or (filled n d xs) i e ≡ get_or xs i d
@@ -31,36 +31,36 @@ module _ {A : Type 0} (d : A) where
   filled_at (suc n) (x ∷ xs) (suc i) e h = filled_at n xs i e (omega arith)
 
   -- the element behind a list's last, set in the array
-  pub filled-set : (n : ℕ) (xs : List A) (x : A) → length xs < n → set (filled n d xs) (length xs) x ≡ filled n d (xs ++ x ∷ [])
+  pub filled_set : (n : ℕ) (xs : List A) (x : A) → length xs < n → set (filled n d xs) (length xs) x ≡ filled n d (xs ++ x ∷ [])
   unfolding filled
-  filled-set zero xs x h = absurd (omega arith)
-  filled-set (suc n) [] x h = refl
-  filled-set (suc n) (y ∷ xs) x h = ap (λ (l : List A). y ∷ l) (filled-set n xs x (omega arith))
+  filled_set zero xs x h = absurd (omega arith)
+  filled_set (suc n) [] x h = refl
+  filled_set (suc n) (y ∷ xs) x h = ap (λ (l : List A). y ∷ l) (filled_set n xs x (omega arith))
 
   -- a list of the array's length fills it
-  pub filled-same : (xs : List A) → filled (length xs) d xs ≡ xs
+  pub filled_same : (xs : List A) → filled (length xs) d xs ≡ xs
   unfolding filled
-  filled-same [] = refl
-  filled-same (x ∷ xs) = ap (λ (l : List A). x ∷ l) (filled-same xs)
+  filled_same [] = refl
+  filled_same (x ∷ xs) = ap (λ (l : List A). x ∷ l) (filled_same xs)
 
   -- the first elements of an array that a list fills are the list
-  pub filled-front : (n : ℕ) (xs : List A) → length xs ≤ n → take (length xs) (filled n d xs) ≡ xs
+  pub filled_front : (n : ℕ) (xs : List A) → length xs ≤ n → take (length xs) (filled n d xs) ≡ xs
   unfolding filled
-  filled-front n [] h = refl
-  filled-front zero (x ∷ xs) h = absurd (omega arith)
-  filled-front (suc n) (x ∷ xs) h = ap (λ (l : List A). x ∷ l) (filled-front n xs (omega arith))
+  filled_front n [] h = refl
+  filled_front zero (x ∷ xs) h = absurd (omega arith)
+  filled_front (suc n) (x ∷ xs) h = ap (λ (l : List A). x ∷ l) (filled_front n xs (omega arith))
 
   -- no default stands where the list is long enough
-  pub filled-take : (n : ℕ) (xs : List A) → n ≤ length xs → filled n d xs ≡ take n xs
+  pub filled_take : (n : ℕ) (xs : List A) → n ≤ length xs → filled n d xs ≡ take n xs
   unfolding filled
-  filled-take zero xs h = refl
-  filled-take (suc n) [] h = absurd (omega arith)
-  filled-take (suc n) (x ∷ xs) h = ap (λ (l : List A). x ∷ l) (filled-take n xs (omega arith))
+  filled_take zero xs h = refl
+  filled_take (suc n) [] h = absurd (omega arith)
+  filled_take (suc n) (x ∷ xs) h = ap (λ (l : List A). x ∷ l) (filled_take n xs (omega arith))
 
   -- the first elements of an array, from one of them on
-  pub taken-from :
+  pub taken_from :
       (count : ℕ) (xs : List A) (k : ℕ) → k < count → count ≤ length xs → drop k (take count xs) ≡ get_or xs k d ∷ drop (suc k) (take count xs)
-  taken-from count xs k here long =
+  taken_from count xs k here long =
       drop-cons (take count xs) k d (omega (arith, length-take-le count xs long))
       ∙ ap (λ (x : A). x ∷ drop (suc k) (take count xs)) (get_or-take count xs k d here)
 

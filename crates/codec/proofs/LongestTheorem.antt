@@ -23,7 +23,7 @@ use Rattle.codec.proofs.PartLaws.{digits_left, digits_right, blanks_go, digits_g
 use Rattle.codec.proofs.PartLaws.{Stops, stops_blanks, stops_power, sign_go, sign_no_blank, power_blanks}
 use Rattle.codec.proofs.PartLaws.{point_no_digit, point_exact, power_exact}
 use Rattle.codec.proofs.FormLaws.{numeral_append, text_append, starts_numeral, text_front, form_of_parts, converts_form}
-use Rattle.codec.proofs.TextLaws.{numeral_length, text_length_lem, point_long, legal-none, legal-some, reading-empty, reading-number, convert-whole}
+use Rattle.codec.proofs.TextLaws.{numeral_length, text_length_lem, point_long, legal_none, legal_some, reading_empty, reading_number, convert_whole}
 
 -- How many bytes are read from each part on.
 
@@ -297,14 +297,14 @@ pub longest : (bytes : List ℕ) → LongestForm bytes (legal_length bytes)
 longest bytes =
     ⊎_elim
     (λ (none : length (all_digits_of (parts_in bytes).numeral) ≡ 0).
-    let size = legal-none bytes none in
+    let size = legal_none bytes none in
     record {
       inside = omega arith;
       has_form = λ some. absurd (some size);
       longest = λ n t inside form. absurd (omega (arith, (beginning_covered bytes n t inside form).some));
     })
     (λ (some : length (all_digits_of (parts_in bytes).numeral) ≡ 0 → ⊥).
-    let size = legal-some bytes some in
+    let size = legal_some bytes some in
     let front = text_front bytes in
     record {
       inside = omega (arith, length-append (text_bytes (parts_in bytes)) front.0, ap length front.1);
@@ -333,11 +333,11 @@ empty_length = omega (arith, (longest []).inside)
 
 -- and are read as no text number
 pub empty_reading : reading_in [] ≡ no_reading
-empty_reading = reading-empty [] empty_length
+empty_reading = reading_empty [] empty_length
 
 -- so they convert to 8
 empty_converts : convert_text [] ≡ refused 8 0
-empty_converts = convert-whole [] empty_length ∙ ap (λ (r : TextReading). r.number) empty_reading
+empty_converts = convert_whole [] empty_length ∙ ap (λ (r : TextReading). r.number) empty_reading
 
 -- Published: the number that is read is what the longest beginning converts to.
 pub beginning_converts : (bytes : List ℕ) → convert_text (take (legal_length bytes) bytes) ≡ (reading_in bytes).number
@@ -346,8 +346,8 @@ beginning_converts bytes =
     (λ (none : legal_length bytes ≡ 0).
     ap (λ (n : ℕ). convert_text (take n bytes)) none
     ∙ empty_converts
-    ∙ sym (ap (λ (r : TextReading). r.number) (reading-empty bytes none)))
+    ∙ sym (ap (λ (r : TextReading). r.number) (reading_empty bytes none)))
     (λ (some : legal_length bytes ≡ 0 → ⊥).
-    converts_form (form_of_parts bytes (λ (z : length (all_digits_of (parts_in bytes).numeral) ≡ 0). some (legal-none bytes z)))
-    ∙ sym (reading-number bytes some))
+    converts_form (form_of_parts bytes (λ (z : length (all_digits_of (parts_in bytes).numeral) ≡ 0). some (legal_none bytes z)))
+    ∙ sym (reading_number bytes some))
     (zero_or_not (legal_length bytes))

@@ -22,7 +22,7 @@ use Rattle.decimal.proofs.BoolLaws.{zero_or_not}
 use Rattle.decimal.proofs.PowerLaws.{pow10_pos}
 use Rattle.decimal.proofs.DigitLaws.{le_or_lt, digits_length, order_of_digits}
 use Rattle.decimal.proofs.MagnitudeLaws.{scaled-magnitude}
-use Rattle.decimal.proofs.TruncationLaws.{fit-truncation, truncation-fit, truncation-done, stored-zero, stored-fixed}
+use Rattle.decimal.proofs.TruncationLaws.{fit_truncation, truncation_fit, truncation_done, stored_zero, stored_fixed}
 use Rattle.decimal.proofs.KeptLaws.{truncates_to_itself}
 use Rattle.decimal.proofs.AnswerLaws.{done_same, then_done}
 use Rattle.codec.specs.Columns.{pad_count}
@@ -117,33 +117,33 @@ column_length_lem im s t =
 
 module _ (im : Image) (kind : UnsignedFixed im) where
   -- such a column has its digits and the pad
-  fixed-halves : (t : Truncated) → column_halves im t ≡ digits_of (hashes im) t.whole ++ zeros (pad_count im)
+  fixed_halves : (t : Truncated) → column_halves im t ≡ digits_of (hashes im) t.whole ++ zeros (pad_count im)
   unfolding column_halves sign_halves exponent_halves
-  fixed-halves t =
+  fixed_halves t =
       ap₂ (λ (s x : List ℕ). s ++ (digits_of (hashes im) t.whole ++ (x ++ zeros (pad_count im))))
       (ap (λ (s : Sign). sign_halves s t) kind.unsigned)
       (ap (λ (b : Bool). exponent_halves b t) kind.fixed)
 
   -- columns come in the order of their digits as whole numbers
-  column-order :
+  column_order :
       (s t : Truncated)
       → s.whole < 10 ^ hashes im
       → t.whole < 10 ^ hashes im
       → comes_before (column_bytes im s) (column_bytes im t) ≡ ltb s.whole t.whole
   unfolding column_bytes
-  column-order s t p q =
+  column_order s t p q =
       packed_order (column_halves im s) (column_halves im t) (column_halves_below im s) (column_halves_below im t) (column_halves_length im s ∙ sym (column_halves_length im t))
-      ∙ ap₂ comes_before (fixed-halves s) (fixed-halves t)
+      ∙ ap₂ comes_before (fixed_halves s) (fixed_halves t)
       ∙ before_tail (digits_of (hashes im) s.whole) (digits_of (hashes im) t.whole) (zeros (pad_count im))
       (digits_length (hashes im) s.whole ∙ sym (digits_length (hashes im) t.whole))
       ∙ order_of_digits (hashes im) s.whole t.whole p q
 
   -- and are the same where these are
-  column-same : (s t : Truncated) → s.whole ≡ t.whole → column_bytes im s ≡ column_bytes im t
+  column_same : (s t : Truncated) → s.whole ≡ t.whole → column_bytes im s ≡ column_bytes im t
   unfolding column_bytes
-  column-same s t e =
+  column_same s t e =
       ap pack_halves
-      (fixed-halves s ∙ ap (λ (k : ℕ). digits_of (hashes im) k ++ zeros (pad_count im)) e ∙ sym (fixed-halves t))
+      (fixed_halves s ∙ ap (λ (k : ℕ). digits_of (hashes im) k ++ zeros (pad_count im)) e ∙ sym (fixed_halves t))
 
   module _ (n : Number) (fit : Fit im n) where
     -- fixed point: the digits are the whole part
@@ -160,37 +160,37 @@ module _ (im : Image) (kind : UnsignedFixed im) where
 
     -- fixed point stores no exponent
     stored : stored_exponent im n ≡ exponent_limit
-    stored = ⊎_elim (λ z. stored-zero im n z) (λ nz. stored-fixed im n nz kind.fixed) (zero_or_not n.mantissa)
+    stored = ⊎_elim (λ z. stored_zero im n z) (λ nz. stored_fixed im n nz kind.fixed) (zero_or_not n.mantissa)
 
     -- the truncated magnitude is the digits' whole number by a constant of the image
     whole-means :
         magnitude_in (truncated_number 0 im n) * 10 ^ (exponent_limit + im.fraction) ≡ (truncated_to im n).whole * 10 ^ exponent_limit * unit
     unfolding truncated_number number_of ◌then◌ magnitude_in truncated_to
     whole-means =
-        let itself = truncates_to_itself 0 im n (fit-truncation 0 im n fit) in
+        let itself = truncates_to_itself 0 im n (fit_truncation 0 im n fit) in
         let given : truncated_number 0 im n ≡ done itself.number =
-        ap (λ (a : Answer Truncated). a then number_of 0 im) (fit-truncation 0 im n fit) ∙ itself.stands_for in
+        ap (λ (a : Answer Truncated). a then number_of 0 im) (fit_truncation 0 im n fit) ∙ itself.stands_for in
         ap (λ (a : Answer Number). magnitude_in a * 10 ^ (exponent_limit + im.fraction)) given
         ∙ scaled-magnitude 0 (truncated_to im n).negative (whole_of im n) (stored_exponent im n) (exponent_limit + im.fraction) itself.stands_for
         ∙ ap (λ (x : ℕ). whole_of im n * 10 ^ x * unit) stored
 
   -- a number that packs
-  column-of : (place : ℕ) (n : Number) {t : Truncated} → packed_truncation place im n ≡ done t → Column im n t
+  column_of : (place : ℕ) (n : Number) {t : Truncated} → packed_truncation place im n ≡ done t → Column im n t
   unfolding packed_truncation packable
-  column-of place n {t} h =
+  column_of place n {t} h =
       let both = then_done (truncation place im n) (packable place im) h in
       let u = both.value in
       let same : u ≡ t = pick_done (not (is_signed im.sign) && ltb u.x exponent_limit) 5 place u both.second in
-      let fit = truncation-fit place im n both.first in
-      subst (λ (v : Truncated). Column im n v) (sym (truncation-done place im n both.first) ∙ same)
+      let fit = truncation_fit place im n both.first in
+      subst (λ (v : Truncated). Column im n v) (sym (truncation_done place im n both.first) ∙ same)
       (record { fits = whole-fits n fit; means = whole-means n fit })
 
 -- Whole numbers and magnitudes, which are a constant apart.
 
 module _ (m n d w v e u : ℕ) (first : m * d ≡ w * e * u) (second : n * d ≡ v * e * u) (some-e : 0 < e) (some-u : 0 < u) where
   -- the smaller whole number has the smaller magnitude
-  means-less : w < v → m < n
-  means-less h =
+  means_less : w < v → m < n
+  means_less h =
       let wide : w * e * u < v * e * u = mul-lt-mul_of_pos_right (mul-lt-mul_of_pos_right h some-e) some-u in
       ⊎_elim
       (λ above. let most : n * d ≤ m * d = mul-le-mul_right d above in absurd (omega arith))
@@ -198,8 +198,8 @@ module _ (m n d w v e u : ℕ) (first : m * d ≡ w * e * u) (second : n * d ≡
       (le_or_lt n m)
 
   -- the same whole number has the same magnitude
-  means-same : 0 < d → w ≡ v → m ≡ n
-  means-same some-d h =
+  means_same : 0 < d → w ≡ v → m ≡ n
+  means_same some-d h =
       let wide : m * d ≡ n * d = first ∙ ap (λ (k : ℕ). k * e * u) h ∙ sym second in
       ⊎_elim
       (λ above.
@@ -228,8 +228,8 @@ first_same {a} {b} {xs} {ys} e h = subst (λ (c : ℕ). FirstSmaller (a ∷ xs) 
 
 module _ (x y us vs : List ℕ) (m n : ℕ) (ms ns : List ℕ) (sized : length x ≡ length y) where
   -- a column that is smaller
-  compared-less : comes_before x y ≡ true → m < n → Compared (x ++ us) (y ++ vs) (m ∷ ms) (n ∷ ns)
-  compared-less front less =
+  compared_less : comes_before x y ≡ true → m < n → Compared (x ++ us) (y ++ vs) (m ∷ ms) (n ∷ ns)
+  compared_less front less =
       let whole = before_front x y us vs sized front in
       record {
         before = ((λ _. FirstSmaller.here less), (λ _. whole));
@@ -240,8 +240,8 @@ module _ (x y us vs : List ℕ) (m n : ℕ) (ms ns : List ℕ) (sized : length x
       }
 
   -- a column that is larger
-  compared-more : comes_before y x ≡ true → n < m → Compared (x ++ us) (y ++ vs) (m ∷ ms) (n ∷ ns)
-  compared-more front less =
+  compared_more : comes_before y x ≡ true → n < m → Compared (x ++ us) (y ++ vs) (m ∷ ms) (n ∷ ns)
+  compared_more front less =
       let whole = before_front y x vs us (sym sized) front in
       record {
         before = (
@@ -284,20 +284,20 @@ module _ (im : Image) (m n : Number) (s t : Truncated) (c : Column im m s) (d : 
   second = magnitude_in (truncated_number 0 im n)
 
   -- the smaller digits have the smaller magnitude
-  column-less : s.whole < t.whole → first < second
-  column-less =
-      means-less first second (10 ^ down) s.whole t.whole (10 ^ exponent_limit) unit c.means d.means
+  column_less : s.whole < t.whole → first < second
+  column_less =
+      means_less first second (10 ^ down) s.whole t.whole (10 ^ exponent_limit) unit c.means d.means
       (pow10_pos exponent_limit) (pow10_pos (exponent_limit + (precision - 1)))
 
   -- the same digits have the same magnitude
-  column-equal : s.whole ≡ t.whole → first ≡ second
-  column-equal =
-      means-same first second (10 ^ down) s.whole t.whole (10 ^ exponent_limit) unit c.means d.means
+  column_equal : s.whole ≡ t.whole → first ≡ second
+  column_equal =
+      means_same first second (10 ^ down) s.whole t.whole (10 ^ exponent_limit) unit c.means d.means
       (pow10_pos exponent_limit) (pow10_pos (exponent_limit + (precision - 1))) (pow10_pos down)
 
 -- a column, and what stands behind it
 module _ (im : Image) (kind : UnsignedFixed im) (m n : Number) (s t : Truncated) (c : Column im m s) (d : Column im n t) where
-  compared-column :
+  compared_column :
       {us vs ms ns : List ℕ}
       → Compared us vs ms ns
       → Compared
@@ -305,23 +305,23 @@ module _ (im : Image) (kind : UnsignedFixed im) (m n : Number) (s t : Truncated)
       (column_bytes im t ++ vs)
       (magnitude_in (truncated_number 0 im m) ∷ ms)
       (magnitude_in (truncated_number 0 im n) ∷ ns)
-  compared-column {us} {vs} {ms} {ns} rest =
+  compared_column {us} {vs} {ms} {ns} rest =
       let sized = column_length_lem im s t in
       ⊎_elim
       (λ le.
       ⊎_elim
       (λ ge.
       let e : s.whole ≡ t.whole = omega arith in
-      compared_same _ _ _ _ _ _ _ _ sized (column-same im kind s t e) (column-equal im m n s t c d e) rest)
+      compared_same _ _ _ _ _ _ _ _ sized (column_same im kind s t e) (column_equal im m n s t c d e) rest)
       (λ lt.
-      compared-less _ _ us vs _ _ ms ns sized
-      (column-order im kind s t c.fits d.fits ∙ lt-ltb s.whole t.whole lt)
-      (column-less im m n s t c d lt))
+      compared_less _ _ us vs _ _ ms ns sized
+      (column_order im kind s t c.fits d.fits ∙ lt-ltb s.whole t.whole lt)
+      (column_less im m n s t c d lt))
       (le_or_lt t.whole s.whole))
       (λ gt.
-      compared-more _ _ us vs _ _ ms ns sized
-      (column-order im kind t s d.fits c.fits ∙ lt-ltb t.whole s.whole gt)
-      (column-less im n m t s d c gt))
+      compared_more _ _ us vs _ _ ms ns sized
+      (column_order im kind t s d.fits c.fits ∙ lt-ltb t.whole s.whole gt)
+      (column_less im n m t s d c gt))
       (le_or_lt s.whole t.whole)
 
 -- the empty list is not before itself
@@ -395,7 +395,7 @@ compared_columns (AllUnsignedFixed.more {im} {ims} kind kinds) place (m ∷ ms) 
     let c = parts_of place im ims m ms h in
     let d = parts_of place im ims n ns g in
     let rest = compared_columns kinds (suc place) ms ns (suc_inj p) (suc_inj q) c.others d.others in
-    let both = compared-column im kind m n c.to d.to (column-of im kind place m c.packed) (column-of im kind place n d.packed) rest in
+    let both = compared_column im kind m n c.to d.to (column_of im kind place m c.packed) (column_of im kind place n d.packed) rest in
     compared_paths c.joined d.joined both
 
 -- two lists that pack

@@ -13,7 +13,7 @@ use Rattle.decimal.specs.Answer.{Answer, done, refused, pick}
 use Rattle.decimal.specs.Number.{exponent_limit}
 use Rattle.decimal.specs.Image.{hashes}
 use Rattle.decimal.specs.Truncation.{Truncated, truncated_to, truncation, packed_truncation, exceeds, exponent_outside, Fit, is_signed, stored_exponent}
-use Rattle.decimal.proofs.TruncationLaws.{truncation-fit, packed-refused, packed-signed, packed-negative, packed-unsigned}
+use Rattle.decimal.proofs.TruncationLaws.{truncation_fit, packed_refused, packed-signed, packed-negative, packed-unsigned}
 use Rattle.decimal.proofs.DigitLaws.{le_or_lt}
 use Rattle.codec.specs.Packing.AllPack.{none, one}
 use Rattle.codec.specs.Answers.{within}
@@ -21,19 +21,19 @@ use Rattle.codec.specs.Packing.{PackConditions, PacksUnder, AllPack}
 
 module _ (place : ℕ) (im : Image) (n : Number) where
   -- only a number that fits is packed
-  pub packed-fit : {t : Truncated} → packed_truncation place im n ≡ done t → Fit im n
-  packed-fit {t} h = go (truncation place im n) refl
+  pub packed_fit : {t : Truncated} → packed_truncation place im n ≡ done t → Fit im n
+  packed_fit {t} h = go (truncation place im n) refl
     where
       go : (a : Answer Truncated) → truncation place im n ≡ a → Fit im n
-      go (done s) e = truncation-fit place im n e
-      go (refused x y) e = let r = packed-refused place im n e in let z : ◌≡◌ {A = ℕ} 0 1 = cc in absurd (omega arith)
+      go (done s) e = truncation_fit place im n e
+      go (refused x y) e = let r = packed_refused place im n e in let z : ◌≡◌ {A = ℕ} 0 1 = cc in absurd (omega arith)
 
   -- and in any column it is packed as its truncation
-  pub packed-anywhere : {t : Truncated} → packed_truncation place im n ≡ done t → (column : ℕ) → packed_truncation column im n ≡ done (truncated_to im n)
-  packed-anywhere {t} h column = go (is_signed im.sign) refl
+  pub packed_anywhere : {t : Truncated} → packed_truncation place im n ≡ done t → (column : ℕ) → packed_truncation column im n ≡ done (truncated_to im n)
+  packed_anywhere {t} h column = go (is_signed im.sign) refl
     where
       fit : Fit im n
-      fit = packed-fit h
+      fit = packed_fit h
 
       go : (b : Bool) → is_signed im.sign ≡ b → packed_truncation column im n ≡ done (truncated_to im n)
       go true e = packed-signed column im n fit e
@@ -43,12 +43,12 @@ module _ (place : ℕ) (im : Image) (n : Number) where
           (le_or_lt exponent_limit (stored_exponent im n))
 
   -- so it packs
-  pub packs-under : {t : Truncated} → packed_truncation place im n ≡ done t → PacksUnder im n
-  packs-under h = record { to = truncated_to im n; truncated = packed-anywhere h }
+  pub packs_under : {t : Truncated} → packed_truncation place im n ≡ done t → PacksUnder im n
+  packs_under h = record { to = truncated_to im n; truncated = packed_anywhere h }
 
 -- a number that packs fits
 pub packs_fit : {im : Image} {n : Number} → PacksUnder im n → Fit im n
-packs_fit {im} {n} p = packed-fit 0 im n (p.truncated 0)
+packs_fit {im} {n} p = packed_fit 0 im n (p.truncated 0)
 
 -- fixed point stores no exponent
 fixed_stored : (im : Image) (n : Number) → im.exponential ≡ false → exponent_limit ≤ stored_exponent im n

@@ -25,11 +25,11 @@ use Rattle.codec.specs.Lists.{filled, list_of, max_columns, no_image, image_list
 use Rattle.codec.specs.Packing.{pack_list, body_of, packing, packing_under, AllPack}
 use Rattle.codec.specs.Packing.AllPack.{none, one}
 use Rattle.codec.specs.Remainders.{cut_columns, packing_remainders, remainders_of, packed_columns, cut_or_zero}
-use Rattle.codec.proofs.ListLaws.{filled-length, filled-set}
+use Rattle.codec.proofs.ListLaws.{filled_length, filled_set}
 use Rattle.codec.proofs.ContentsLaws.{alone_sound, alone_read}
-use Rattle.codec.proofs.UnderLaws.{image_count, image_list_lem, lent-images, packing-lent}
-use Rattle.codec.proofs.PackLaws.{packed-anywhere, packs_length}
-use Rattle.codec.proofs.BodyLaws.{list_length, list_front, packed_only, fits-at}
+use Rattle.codec.proofs.UnderLaws.{image_count, image_list_lem, lent_images, packing_lent}
+use Rattle.codec.proofs.PackLaws.{packed_anywhere, packs_length}
+use Rattle.codec.proofs.BodyLaws.{list_length, list_front, packed_only, fits_at}
 use Rattle.codec.proofs.RoomTheorem.{packing-body}
 
 -- Column by column.
@@ -44,7 +44,7 @@ left_of (im ∷ ims) (n ∷ ns) = cut_off im n (truncated_to im n) ∷ left_of i
 pub packs_left : (column : ℕ) {ims : List Image} {ns : List Number} → AllPack ims ns → cut_columns column ims ns ≡ done (left_of ims ns)
 unfolding cut_columns ◌then◌ left_of
 packs_left column none = refl
-packs_left column (one {im} {n} p ps) = rw (packed-anywhere 0 im n (p.truncated 0) column, packs_left (suc column) ps)
+packs_left column (one {im} {n} p ps) = rw (packed_anywhere 0 im n (p.truncated 0) column, packs_left (suc column) ps)
 
 -- one remainder per column
 pub left_length : (ims : List Image) (ns : List Number) → length ns ≡ length ims → length (left_of ims ns) ≡ length ims
@@ -122,85 +122,85 @@ pub record Left (contents : List ℕ) (numbers : Numbers) (room : ℕ) (images :
 module _ (contents : List ℕ) (r : Contents) (told : r ≡ contents_of (read_alone contents)) (reads : r.answer ≡ checks.Fine)
     (numbers : Numbers) (long : length numbers.values ≡ max_columns) (room : ℕ) where
   -- the array of images has its length
-  array-length : length r.images.values ≡ max_columns
-  array-length = let ok = alone_read contents r told reads in ap length ok.images ∙ filled-length no_image max_columns ok.table.images
+  array_length : length r.images.values ≡ max_columns
+  array_length = let ok = alone_read contents r told reads in ap length ok.images ∙ filled_length no_image max_columns ok.table.images
 
   -- none of the columns
-  left-none : {x y : ℕ} → packing contents (list_of numbers) room ≡ refused x y → Left contents numbers room r.images 0
+  left_none : {x y : ℕ} → packing contents (list_of numbers) room ≡ refused x y → Left contents numbers room r.images 0
   unfolding left_of
-  left-none h =
-      record { few = omega arith; array = array-length; long = long; packs = none; whole = refused_none contents (list_of numbers) room h }
+  left_none h =
+      record { few = omega arith; array = array_length; long = long; packs = none; whole = refused_none contents (list_of numbers) room h }
 
   -- all of them
-  left-all : {body : List ℕ} → packing contents (list_of numbers) room ≡ done body → Left contents numbers room r.images r.images.count
+  left_all : {body : List ℕ} → packing contents (list_of numbers) room ≡ done body → Left contents numbers room r.images r.images.count
   unfolding given
-  left-all h =
+  left_all h =
       let ok = alone_read contents r told reads in
-      let same : image_list r.images ≡ ok.table.images = lent-images contents r told reads ok in
+      let same : image_list r.images ≡ ok.table.images = lent_images contents r told reads ok in
       let packs = body_packs contents (list_of numbers) room ok.reads h in
       let few : r.images.count ≤ max_columns = omega (arith, image_count r.images, ap length same, (alone_sound contents ok.reads).high) in
-      let ims : ok.table.images ≡ take r.images.count r.images.values = sym same ∙ image_list_lem r.images (omega (arith, array-length)) in
+      let ims : ok.table.images ≡ take r.images.count r.images.values = sym same ∙ image_list_lem r.images (omega (arith, array_length)) in
       let count : numbers.count ≡ r.images.count = sym (list_length numbers) ∙ packs_length packs ∙ sym (ap length same) ∙ image_count r.images in
       let ns : list_of numbers ≡ take r.images.count numbers.values = list_front numbers r.images.count count (omega arith) in
       record {
         few = few;
-        array = array-length;
+        array = array_length;
         long = long;
         packs = subst (λ (l : List Image). AllPack l (take r.images.count numbers.values)) ims (subst (AllPack ok.table.images) ns packs);
         whole = ap given (body_left contents (list_of numbers) room ok.reads h) ∙ ap₂ left_of ims ns;
       }
 
   -- as many as packing's answer says
-  pub left-found :
+  pub left_found :
       {answer : Answer ℕ} {count : ℕ}
       → answer ≡ sized (packing_under (image_list r.images) (list_of numbers) room)
       → count ≡ packed_columns answer r.images.count
       → Left contents numbers room r.images count
   unfolding sized
-  left-found {answer} {count} e counted = go (packing contents (list_of numbers) room) refl
+  left_found {answer} {count} e counted = go (packing contents (list_of numbers) room) refl
     where
       asked : {a : Answer (List ℕ)} → packing contents (list_of numbers) room ≡ a → packed_columns (sized a) r.images.count ≡ count
       asked h =
           sym
           (counted
           ∙ ap (λ (x : Answer ℕ). packed_columns x r.images.count)
-          (e ∙ ap sized (sym (packing-lent contents r told reads (list_of numbers) room) ∙ h)))
+          (e ∙ ap sized (sym (packing_lent contents r told reads (list_of numbers) room) ∙ h)))
 
       go : (a : Answer (List ℕ)) → packing contents (list_of numbers) room ≡ a → Left contents numbers room r.images count
-      go (done body) h = subst (Left contents numbers room r.images) (asked h) (left-all h)
-      go (refused x y) h = subst (Left contents numbers room r.images) (asked h) (left-none h)
+      go (done body) h = subst (Left contents numbers room r.images) (asked h) (left_all h)
+      go (refused x y) h = subst (Left contents numbers room r.images) (asked h) (left_none h)
 
 module _ {contents : List ℕ} {numbers : Numbers} {room : ℕ} {images : Images} {count : ℕ} (left : Left contents numbers room images count) where
   -- one remainder more is stored
-  pub left-turn :
+  pub left_turn :
       (k : ℕ) (d : Image) (e : Number) {values : List Remainder} {found : Remainder}
       → k < count
       → values ≡ filled max_columns zero_remainder (left_of (take k images.values) (take k numbers.values))
       → found ≡ cut_or_zero (remainder k (get_or images.values k d) (get_or numbers.values k e))
       → set values k found ≡ filled max_columns zero_remainder (left_of (take (k + 1) images.values) (take (k + 1) numbers.values))
-  left-turn k d e {values} {found} here stored is_found =
+  left_turn k d e {values} {found} here stored is_found =
       let ims : List Image = images.values in
       let ns : List Number = numbers.values in
       let all : (k < length ims) × (k < length ns) × (count ≤ length ims) × (count ≤ length ns) × (k < max_columns) =
       (omega (arith, left.few, left.array), omega (arith, left.few, left.long), omega (arith, left.few, left.array), omega (arith, left.few, left.long), omega (arith, left.few)) in
       let before : List Remainder = left_of (take k ims) (take k ns) in
       let column : Remainder = cut_off (get_or ims k d) (get_or ns k e) (truncated_to (get_or ims k d) (get_or ns k e)) in
-      let fit : Fit (get_or ims k d) (get_or ns k e) = fits-at count ims ns k d e here all.2 all.3 left.packs in
+      let fit : Fit (get_or ims k d) (get_or ns k e) = fits_at count ims ns k d e here all.2 all.3 left.packs in
       let same : length (take k ns) ≡ length (take k ims) = length-take-le k ns (omega (arith, all.1)) ∙ sym (length-take-le k ims (omega (arith, all.0))) in
       let counted : length before ≡ k = left_length (take k ims) (take k ns) same ∙ length-take-le k ims (omega (arith, all.0)) in
       ap₂ (λ (l : List Remainder) (r : Remainder). set l k r) stored (is_found ∙ found_fit k (get_or ims k d) (get_or ns k e) fit)
       ∙ ap (λ (i : ℕ). set (filled max_columns zero_remainder before) i column) (sym counted)
-      ∙ filled-set zero_remainder max_columns before column (omega (arith, all.4))
+      ∙ filled_set zero_remainder max_columns before column (omega (arith, all.4))
       ∙ ap (filled max_columns zero_remainder) (sym (left_next ims ns k d e all.0 all.1))
       ∙ ap (λ (i : ℕ). filled max_columns zero_remainder (left_of (take i ims) (take i ns))) (sym (add-one k))
 
   -- behind the last column the array is the answer
-  pub left-answer :
+  pub left_answer :
       {values : List Remainder}
       → values ≡ filled max_columns zero_remainder (left_of (take count images.values) (take count numbers.values))
       → ◌≡◌ {A = Remainders} (record { values = values; count = count }) (remainders_of (given (packing_remainders contents (list_of numbers) room)))
   unfolding remainders_of
-  left-answer {values} stored =
+  left_answer {values} stored =
       let ims : List Image = take count images.values in
       let ns : List Number = take count numbers.values in
       let counted : length (left_of ims ns) ≡ count =

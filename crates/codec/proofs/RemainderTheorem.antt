@@ -12,7 +12,7 @@ use Rattle.decimal.specs.Truncation.{Truncated, truncated_to}
 use Rattle.decimal.specs.Remainder.{zero_remainder, IsRemainder}
 use Rattle.decimal.proofs.AnswerLaws.{never, one_answer, refused_first}
 use Rattle.decimal.proofs.RemainderLaws.{remainder-fit}
-use Rattle.decimal.proofs.RemainderTheorem.{left-once, fit-left, remainder-exactly}
+use Rattle.decimal.proofs.RemainderTheorem.{left_once, fit_left, remainder_exactly}
 use Rattle.codec.specs.Contents.{IsContents, Table, read_alone}
 use Rattle.codec.specs.Order.{Truncations}
 use Rattle.codec.specs.Packing.{packing, AllPack}
@@ -21,7 +21,7 @@ use Rattle.codec.specs.Lists.{max_columns}
 use Rattle.codec.specs.Remainders.{packing_remainders, remainders_of, RemainderEach, SumEach, RemaindersExactly}
 use Rattle.codec.proofs.ListLaws.{filled_at}
 use Rattle.codec.proofs.ContentsTheorem.{alone_exactly, contents_unique}
-use Rattle.codec.proofs.PackLaws.{packed-anywhere, packs-under, packs_fit}
+use Rattle.codec.proofs.PackLaws.{packed_anywhere, packs_under, packs_fit}
 use Rattle.codec.proofs.RoomTheorem.{packing-body}
 use Rattle.codec.proofs.ReadBackTheorem.{contents_packs, contents_read_back}
 use Rattle.codec.proofs.RemainderLaws.{left_of, left_refused, refused_none, body_packs, body_left}
@@ -33,23 +33,23 @@ packs_each : (column : ℕ) {ims : List Image} {ns : List Number} → AllPack im
 unfolding left_of
 packs_each column AllPack.none = RemainderEach.none
 packs_each column (AllPack.one {im} {n} p ps) =
-    RemainderEach.one (packed-anywhere 0 im n (p.truncated 0) column) (fit-left im n (packs_fit p)) (packs_each (suc column) ps)
+    RemainderEach.one (packed_anywhere 0 im n (p.truncated 0) column) (fit_left im n (packs_fit p)) (packs_each (suc column) ps)
 
 -- and nothing else is
 each_left : {column : ℕ} {ims : List Image} {ns : List Number} {rs : List Remainder} → RemainderEach column ims ns rs → rs ≡ left_of ims ns
 unfolding left_of
 each_left RemainderEach.none = refl
 each_left (RemainderEach.one {column} {im} {n} {t} {r} cut left others) =
-    let to : t ≡ truncated_to im n = one_answer cut (packed-anywhere column im n cut column) in
+    let to : t ≡ truncated_to im n = one_answer cut (packed_anywhere column im n cut column) in
     let own : IsRemainder im n (truncated_to im n) r = subst (λ (k : Truncated). IsRemainder im n k r) to left in
-    ap₂ ◌∷◌ (left-once im n (fit-left im n (packs_fit (packs-under column im n cut))) own) (each_left others)
+    ap₂ ◌∷◌ (left_once im n (fit_left im n (packs_fit (packs_under column im n cut))) own) (each_left others)
 
 -- with the truncations as numbers
 packs_sum : {ims : List Image} {ns ts : List Number} → AllPack ims ns → Truncations ims ns ts → SumEach ns ts (left_of ims ns)
 unfolding left_of
 packs_sum AllPack.none Truncations.none = SumEach.none
 packs_sum (AllPack.one {im} {n} p ps) (Truncations.one cut others) =
-    SumEach.one ((remainder-exactly 0 im n).number_sum (cut 0) (remainder-fit im n (packs_fit p) 0)) (packs_sum ps others)
+    SumEach.one ((remainder_exactly 0 im n).number_sum (cut 0) (remainder-fit im n (packs_fit p) 0)) (packs_sum ps others)
 
 -- Published: what stands in the code's list, place by place: the remainders, and behind them that of zero.
 pub list_places : (rs : List Remainder) (i : ℕ) (d : Remainder) → i < max_columns → get_or (remainders_of rs).values i d ≡ get_or rs i zero_remainder
@@ -60,38 +60,38 @@ list_places rs i d h = filled_at zero_remainder max_columns rs i d h
 
 module _ (contents : List ℕ) (ns : List Number) (room : ℕ) where
   -- where there is a body, the contents is read
-  body-read : {body : List ℕ} → packing contents ns room ≡ done body → (table : Table) × (read_alone contents ≡ done table)
-  body-read h = let p = contents_packs contents ns (packing-body contents ns room h) in (p.0, p.1)
+  body_read : {body : List ℕ} → packing contents ns room ≡ done body → (table : Table) × (read_alone contents ≡ done table)
+  body_read h = let p = contents_packs contents ns (packing-body contents ns room h) in (p.0, p.1)
 
   -- where there are remainders, there is a body
-  remainders-body : {rs : List Remainder} → packing_remainders contents ns room ≡ done rs → (body : List ℕ) × (packing contents ns room ≡ done body)
-  remainders-body {rs} h = go (packing contents ns room) refl
+  remainders_body : {rs : List Remainder} → packing_remainders contents ns room ≡ done rs → (body : List ℕ) × (packing contents ns room ≡ done body)
+  remainders_body {rs} h = go (packing contents ns room) refl
     where
       go : (a : Answer (List ℕ)) → packing contents ns room ≡ a → (body : List ℕ) × (packing contents ns room ≡ done body)
       go (done body) e = (body, e)
       go (refused x y) e = never (left_refused contents ns room e) h
 
   -- what is given with a body is left by its truncations
-  given-each :
+  given_each :
       {rs : List Remainder}
       → packing_remainders contents ns room ≡ done rs
       → (body : List ℕ) × (packing contents ns room ≡ done body) × (ims : List Image) × IsContents contents ims × RemainderEach 0 ims ns rs
-  given-each {rs} h =
-      let b = remainders-body h in
-      let t = body-read b.1 in
+  given_each {rs} h =
+      let b = remainders_body h in
+      let t = body_read b.1 in
       let same : left_of t.0.images ns ≡ rs = one_answer (body_left contents ns room t.1 b.1) h in
       let each = packs_each 0 (body_packs contents ns room t.1 b.1) in
       (b.0, b.1, t.0.images, ((alone_exactly contents).0 t.1).is_contents, subst (RemainderEach 0 t.0.images ns) same each)
 
   -- and what its truncations leave is given
-  each-given :
+  each_given :
       {rs : List Remainder} {body : List ℕ} {ims : List Image}
       → packing contents ns room ≡ done body
       → IsContents contents ims
       → RemainderEach 0 ims ns rs
       → packing_remainders contents ns room ≡ done rs
-  each-given {rs} {body} {ims} packed is each =
-      let t = body-read packed in
+  each_given {rs} {body} {ims} packed is each =
+      let t = body_read packed in
       let same : t.0.images ≡ ims = contents_unique ((alone_exactly contents).0 t.1).is_contents is in
       body_left contents ns room t.1 packed ∙ ap done (ap (λ (l : List Image). left_of l ns) same ∙ sym (each_left each))
 
@@ -99,7 +99,7 @@ module _ (contents : List ℕ) (ns : List Number) (room : ℕ) where
   refused_as : (number place : ℕ) → packing_remainders contents ns room ≡ refused number place → packing contents ns room ≡ refused number place
   unfolding packing_remainders
   refused_as number place h =
-      refused_first (packing contents ns room) _ (λ body e. (left_of (body-read e).0.images ns, body_left contents ns room (body-read e).1 e)) h
+      refused_first (packing contents ns room) _ (λ body e. (left_of (body_read e).0.images ns, body_left contents ns room (body_read e).1 e)) h
 
   -- Published: where packing is refused, the code's list has the count 0, and the remainder of zero stands in every place.
   pub refused_places :
@@ -125,10 +125,10 @@ module _ (contents : List ℕ) (ns : List Number) (room : ℕ) where
       (subst (λ (l : List Number). SumEach ns l (left_of b.0.images ns)) numbers (packs_sum (body_packs contents ns room b.1 packed) b.3))
 
   -- Published: packing gives these remainders exactly.
-  pub remainders-exactly : RemaindersExactly contents ns room
-  remainders-exactly =
+  pub remainders_exactly : RemaindersExactly contents ns room
+  remainders_exactly =
       record {
-        given = λ rs. (given-each, λ p. each-given p.1 p.3 p.4);
+        given = λ rs. (given_each, λ p. each_given p.1 p.3 p.4);
         refuses = λ number place. (refused_as number place, left_refused contents ns room);
         read_back = back_sum;
       }

@@ -114,8 +114,8 @@ never_body contents ns =
 
 module _ (contents : List ℕ) (ns : List Number) where
   -- the body itself is never refused with 6
-  pub body-not-six : {number place : ℕ} → body_of contents ns ≡ refused number place → number ≡ 6 → ⊥
-  body-not-six h = other_than (subst (λ (a : Answer (List ℕ)). NotSix a) h (never_body contents ns))
+  pub body_not_six : {number place : ℕ} → body_of contents ns ≡ refused number place → number ≡ 6 → ⊥
+  body_not_six h = other_than (subst (λ (a : Answer (List ℕ)). NotSix a) h (never_body contents ns))
 
   module _ (room : ℕ) where
     -- a body longer than the room is refused with 6
@@ -159,4 +159,4 @@ module _ (contents : List ℕ) (ns : List Number) where
         go (refused number at_place) e =
             let same : ◌≡◌ {A = Answer (List ℕ)} (refused number at_place) (refused 6 place) = sym (none-refused e) ∙ h in
             let six : number ≡ 6 = cc in
-            absurd (body-not-six e six)
+            absurd (body_not_six e six)

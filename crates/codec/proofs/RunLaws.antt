@@ -108,49 +108,49 @@ run_behind n hs {run} {half} long few halves small e =
 
 module _ (im : Image) (t : Truncated) where
   -- a column's half bytes before the exponent: the sign half, if the image has a sign, and the digits
-  abbrev pub columnFront : List ℕ
-  columnFront = sign_halves im.sign t ++ digits_of (hashes im) t.whole
+  abbrev pub column_front : List ℕ
+  column_front = sign_halves im.sign t ++ digits_of (hashes im) t.whole
 
   -- their count
-  pub front_length : length columnFront ≡ sign_count im.sign + hashes im
+  pub front_length : length column_front ≡ sign_count im.sign + hashes im
   front_length =
       length-append (sign_halves im.sign t) (digits_of (hashes im) t.whole)
       ∙ ap₂ (λ (a b : ℕ). a + b) (sign_halves_length im.sign t) (digits_length (hashes im) t.whole)
 
   -- they are half bytes
-  pub front-halves : Halves columnFront
-  front-halves =
+  pub front_halves : Halves column_front
+  front_halves =
       halves_append (sign_halves im.sign t) (digits_of (hashes im) t.whole) (sign_halves_below im.sign t) (digit_halves (hashes im) t.whole)
 
   -- the column: what stands before the exponent, the exponent and the pad
-  column-parts : {b : Bool} {p : ℕ} → im.exponential ≡ b → pad_count im ≡ p → column_halves im t ≡ columnFront ++ (exponent_halves b t ++ zeros p)
+  column_parts : {b : Bool} {p : ℕ} → im.exponential ≡ b → pad_count im ≡ p → column_halves im t ≡ column_front ++ (exponent_halves b t ++ zeros p)
   unfolding column_halves
-  column-parts kind pad =
+  column_parts kind pad =
       sym (append_assoc (sign_halves im.sign t) (digits_of (hashes im) t.whole) (exponent_halves im.exponential t ++ zeros (pad_count im)))
-      ∙ ap₂ (λ (b : Bool) (p : ℕ). columnFront ++ (exponent_halves b t ++ zeros p)) kind pad
+      ∙ ap₂ (λ (b : Bool) (p : ℕ). column_front ++ (exponent_halves b t ++ zeros p)) kind pad
 
   -- an even count and no exponent: the run is the column
-  pub bytes-even-fixed :
-      (k : ℕ) → sign_count im.sign + hashes im ≡ 2 * k → im.exponential ≡ false → pack_halves (halves_in (2 * k) (packed_of columnFront)) ≡ column_bytes im t
+  pub bytes_even_fixed :
+      (k : ℕ) → sign_count im.sign + hashes im ≡ 2 * k → im.exponential ≡ false → pack_halves (halves_in (2 * k) (packed_of column_front)) ≡ column_bytes im t
   unfolding column_bytes exponent_halves zeros
-  bytes-even-fixed k even kind =
+  bytes_even_fixed k even kind =
       let pad : pad_count im ≡ 0 = ap (λ (b : Bool). (sign_count im.sign + (hashes im + exponent_count b)) % 2) kind ∙ omega arith in
       ap pack_halves
-      (halves_of_packed (2 * k) columnFront (front_length ∙ even) front-halves ∙ sym (append-nil columnFront) ∙ sym (column-parts kind pad))
+      (halves_of_packed (2 * k) column_front (front_length ∙ even) front_halves ∙ sym (append-nil column_front) ∙ sym (column_parts kind pad))
 
   -- an odd count and no exponent: a zero half behind the run
-  pub bytes-odd-fixed :
+  pub bytes_odd_fixed :
       (k : ℕ)
       → sign_count im.sign + hashes im + 1 ≡ 2 * k
       → im.exponential ≡ false
-      → pack_halves (halves_in (2 * k) (packed_of (columnFront ++ 0 ∷ []))) ≡ column_bytes im t
+      → pack_halves (halves_in (2 * k) (packed_of (column_front ++ 0 ∷ []))) ≡ column_bytes im t
   unfolding column_bytes exponent_halves zeros Halves
-  bytes-odd-fixed k odd kind =
+  bytes_odd_fixed k odd kind =
       let pad : pad_count im ≡ 1 = ap (λ (b : Bool). (sign_count im.sign + (hashes im + exponent_count b)) % 2) kind ∙ omega arith in
       ap pack_halves
-      (halves_of_packed (2 * k) (columnFront ++ 0 ∷ []) (omega (arith, length-append columnFront (0 ∷ []), front_length))
-      (halves_append columnFront (0 ∷ []) front-halves (omega arith, tt))
-      ∙ sym (column-parts kind pad))
+      (halves_of_packed (2 * k) (column_front ++ 0 ∷ []) (omega (arith, length-append column_front (0 ∷ []), front_length))
+      (halves_append column_front (0 ∷ []) front_halves (omega arith, tt))
+      ∙ sym (column_parts kind pad))
 
   module _ (small : exponent_size t ≤ exponent_limit) where
     -- two digits of |x|
@@ -165,31 +165,31 @@ module _ (im : Image) (t : Truncated) where
         (k : ℕ)
         → sign_count im.sign + hashes im ≡ 2 * k
         → im.exponential ≡ true
-        → pack_halves (halves_in (2 * k) (packed_of columnFront)) ++ ((exponent_size t / 10 * 16 + exponent_size t % 10) ∷ []) ≡ column_bytes im t
+        → pack_halves (halves_in (2 * k) (packed_of column_front)) ++ ((exponent_size t / 10 * 16 + exponent_size t % 10) ∷ []) ≡ column_bytes im t
     unfolding column_bytes zeros pack_halves
     bytes-even k even kind =
         let pad : pad_count im ≡ 0 = ap (λ (b : Bool). (sign_count im.sign + (hashes im + exponent_count b)) % 2) kind ∙ omega arith in
         let behind : List ℕ = exponent_size t / 10 ∷ (exponent_size t % 10 ∷ []) in
-        ap (λ (hs : List ℕ). pack_halves hs ++ pack_halves behind) (halves_of_packed (2 * k) columnFront (front_length ∙ even) front-halves)
-        ∙ sym (pack_halves_append columnFront behind k (front_length ∙ even))
-        ∙ ap pack_halves (sym (column-parts kind pad ∙ ap (λ (hs : List ℕ). columnFront ++ (hs ++ [])) exponent-digits))
+        ap (λ (hs : List ℕ). pack_halves hs ++ pack_halves behind) (halves_of_packed (2 * k) column_front (front_length ∙ even) front_halves)
+        ∙ sym (pack_halves_append column_front behind k (front_length ∙ even))
+        ∙ ap pack_halves (sym (column_parts kind pad ∙ ap (λ (hs : List ℕ). column_front ++ (hs ++ [])) exponent-digits))
 
     -- an odd count: the first digit fills the run's last byte, and the second one and a zero half are a byte behind it
     pub bytes-odd :
         (k : ℕ)
         → sign_count im.sign + hashes im + 1 ≡ 2 * k
         → im.exponential ≡ true
-        → pack_halves (halves_in (2 * k) (packed_of (columnFront ++ exponent_size t / 10 ∷ []))) ++ ((exponent_size t % 10 * 16) ∷ []) ≡ column_bytes im t
+        → pack_halves (halves_in (2 * k) (packed_of (column_front ++ exponent_size t / 10 ∷ []))) ++ ((exponent_size t % 10 * 16) ∷ []) ≡ column_bytes im t
     unfolding column_bytes zeros pack_halves Halves
     bytes-odd k odd kind =
         let pad : pad_count im ≡ 1 = ap (λ (b : Bool). (sign_count im.sign + (hashes im + exponent_count b)) % 2) kind ∙ omega arith in
         let tens : ℕ = exponent_size t / 10 in
         let behind : List ℕ = exponent_size t % 10 ∷ (0 ∷ []) in
-        let long : length (columnFront ++ tens ∷ []) ≡ 2 * k = omega (arith, length-append columnFront (tens ∷ []), front_length) in
-        let halves : Halves (columnFront ++ tens ∷ []) = halves_append columnFront (tens ∷ []) front-halves (omega arith, tt) in
+        let long : length (column_front ++ tens ∷ []) ≡ 2 * k = omega (arith, length-append column_front (tens ∷ []), front_length) in
+        let halves : Halves (column_front ++ tens ∷ []) = halves_append column_front (tens ∷ []) front_halves (omega arith, tt) in
         let last : ◌≡◌ {A = List ℕ} ((exponent_size t % 10 * 16) ∷ []) (pack_halves behind) = ap (λ (b : ℕ). b ∷ []) (omega arith) in
-        ap₂ (λ (hs bs : List ℕ). pack_halves hs ++ bs) (halves_of_packed (2 * k) (columnFront ++ tens ∷ []) long halves) last
-        ∙ sym (pack_halves_append (columnFront ++ tens ∷ []) behind k long)
+        ap₂ (λ (hs bs : List ℕ). pack_halves hs ++ bs) (halves_of_packed (2 * k) (column_front ++ tens ∷ []) long halves) last
+        ∙ sym (pack_halves_append (column_front ++ tens ∷ []) behind k long)
         ∙ ap pack_halves
-        (append_assoc columnFront (tens ∷ []) behind
-        ∙ sym (column-parts kind pad ∙ ap (λ (hs : List ℕ). columnFront ++ (hs ++ 0 ∷ [])) exponent-digits))
+        (append_assoc column_front (tens ∷ []) behind
+        ∙ sym (column_parts kind pad ∙ ap (λ (hs : List ℕ). column_front ++ (hs ++ 0 ∷ [])) exponent-digits))

@@ -98,41 +98,41 @@ digit_high b h =
 
 module _ (text : List ℕ) (place : ℕ) where
   -- no blank behind the end
-  pub blanks-end : length text ≤ place → blanks_in (drop place text) ≡ 0
+  pub blanks_end : length text ≤ place → blanks_in (drop place text) ≡ 0
   unfolding blanks_in
-  blanks-end h = ap blanks_in (drop_of_length-le text h)
+  blanks_end h = ap blanks_in (drop_of_length-le text h)
 
   -- a blank counts
-  pub blanks-more : place < length text → get_or text place 0 ≡ blank_byte → blanks_in (drop place text) ≡ suc (blanks_in (drop (place + 1) text))
+  pub blanks_more : place < length text → get_or text place 0 ≡ blank_byte → blanks_in (drop place text) ≡ suc (blanks_in (drop (place + 1) text))
   unfolding blanks_in
-  blanks-more h e = rw (add-one place, drop-cons text place 0 h, eq-eqb (get_or text place 0) blank_byte e)
+  blanks_more h e = rw (add-one place, drop-cons text place 0 h, eq-eqb (get_or text place 0) blank_byte e)
 
   -- another byte ends the blanks
-  pub blanks-other : place < length text → (get_or text place 0 ≡ blank_byte → ⊥) → blanks_in (drop place text) ≡ 0
+  pub blanks_other : place < length text → (get_or text place 0 ≡ blank_byte → ⊥) → blanks_in (drop place text) ≡ 0
   unfolding blanks_in
-  blanks-other h e = rw (drop-cons text place 0 h, ne_eqb (get_or text place 0) blank_byte e)
+  blanks_other h e = rw (drop-cons text place 0 h, ne_eqb (get_or text place 0) blank_byte e)
 
   -- no sign behind the end
-  pub sign-end : length text ≤ place → sign_in (drop place text) ≡ Unsigned
+  pub sign_end : length text ≤ place → sign_in (drop place text) ≡ Unsigned
   unfolding sign_in
-  sign-end h = ap sign_in (drop_of_length-le text h)
+  sign_end h = ap sign_in (drop_of_length-le text h)
 
   -- the byte at the place says the sign
-  pub sign-here : place < length text → sign_in (drop place text) ≡ sign_of (get_or text place 0)
+  pub sign_here : place < length text → sign_in (drop place text) ≡ sign_of (get_or text place 0)
   unfolding sign_in
-  sign-here h = rw (drop-cons text place 0 h)
+  sign_here h = rw (drop-cons text place 0 h)
 
   -- no digit behind the end
-  pub digits-end : (most : ℕ) → length text ≤ place → digits_in most (drop place text) ≡ []
+  pub digits_end : (most : ℕ) → length text ≤ place → digits_in most (drop place text) ≡ []
   unfolding digits_in
-  digits-end zero h = refl
-  digits-end (suc most) h = ap (digits_in (suc most)) (drop_of_length-le text h)
+  digits_end zero h = refl
+  digits_end (suc most) h = ap (digits_in (suc most)) (drop_of_length-le text h)
 
   -- another byte ends the digits
-  pub digits-other : (most : ℕ) → place < length text → is_digit (get_or text place 0) ≡ false → digits_in most (drop place text) ≡ []
+  pub digits_other : (most : ℕ) → place < length text → is_digit (get_or text place 0) ≡ false → digits_in most (drop place text) ≡ []
   unfolding digits_in
-  digits-other zero h e = refl
-  digits-other (suc most) h e = rw (drop-cons text place 0 h, e)
+  digits_other zero h e = refl
+  digits_other (suc most) h e = rw (drop-cons text place 0 h, e)
 
   -- a digit stands before the others
   pub digits_more : (most : ℕ) → place < length text → is_digit (get_or text place 0) ≡ true
@@ -141,37 +141,37 @@ module _ (text : List ℕ) (place : ℕ) where
   digits_more most h e = rw (add-one place, drop-cons text place 0 h, e)
 
   -- no point behind the end
-  pub point-end : (most : ℕ) → length text ≤ place → point_in most (drop place text) ≡ no_point
+  pub point_end : (most : ℕ) → length text ≤ place → point_in most (drop place text) ≡ no_point
   unfolding point_in
-  point-end most h = ap (point_in most) (drop_of_length-le text h)
+  point_end most h = ap (point_in most) (drop_of_length-le text h)
 
   -- another byte is no point
-  pub point-other : (most : ℕ) → place < length text → (get_or text place 0 ≡ point_byte → ⊥) → point_in most (drop place text) ≡ no_point
+  pub point_other : (most : ℕ) → place < length text → (get_or text place 0 ≡ point_byte → ⊥) → point_in most (drop place text) ≡ no_point
   unfolding point_in
-  point-other most h e = rw (drop-cons text place 0 h, ne_eqb (get_or text place 0) point_byte e)
+  point_other most h e = rw (drop-cons text place 0 h, ne_eqb (get_or text place 0) point_byte e)
 
   -- a point and the digits behind it
-  pub point-here : (most : ℕ) → place < length text → get_or text place 0 ≡ point_byte
+  pub point_here : (most : ℕ) → place < length text → get_or text place 0 ≡ point_byte
       → point_in most (drop place text) ≡ point (digits_in most (drop (place + 1) text))
   unfolding point_in
-  point-here most h e = rw (add-one place, drop-cons text place 0 h, eq-eqb (get_or text place 0) point_byte e)
+  point_here most h e = rw (add-one place, drop-cons text place 0 h, eq-eqb (get_or text place 0) point_byte e)
 
   -- no exponent behind the end
-  pub power-end : length text ≤ place → power_in (drop place text) ≡ no_exponent
+  pub power_end : length text ≤ place → power_in (drop place text) ≡ no_exponent
   unfolding power_in
-  power-end h = ap power_in (drop_of_length-le text h)
+  power_end h = ap power_in (drop_of_length-le text h)
 
   -- another byte is no exponent
-  pub power-other : place < length text → (get_or text place 0 ≡ exponent_byte → ⊥) → power_in (drop place text) ≡ no_exponent
+  pub power_other : place < length text → (get_or text place 0 ≡ exponent_byte → ⊥) → power_in (drop place text) ≡ no_exponent
   unfolding power_in
-  power-other h e = rw (drop-cons text place 0 h, ne_eqb (get_or text place 0) exponent_byte e)
+  power_other h e = rw (drop-cons text place 0 h, ne_eqb (get_or text place 0) exponent_byte e)
 
   -- E, and what the sign and the digits behind it make
-  pub power-here : place < length text → get_or text place 0 ≡ exponent_byte
+  pub power_here : place < length text → get_or text place 0 ≡ exponent_byte
       → power_in (drop place text)
       ≡ power_of (sign_in (drop (place + 1) text)) (digits_in 2 (drop (sign_length (sign_in (drop (place + 1) text))) (drop (place + 1) text)))
   unfolding power_in
-  power-here h e = rw (add-one place, drop-cons text place 0 h, eq-eqb (get_or text place 0) exponent_byte e)
+  power_here h e = rw (add-one place, drop-cons text place 0 h, eq-eqb (get_or text place 0) exponent_byte e)
 
 -- a byte that is no sign
 pub no_sign : (b : ℕ) → (b ≡ plus_byte → ⊥) → (b ≡ minus_byte → ⊥) → sign_of b ≡ Unsigned
@@ -460,24 +460,24 @@ module _ (text : List ℕ) (place : ℕ) (there : place < length text) (letter :
   digits = digits_in 2 (drop (place + 1 + signs) text)
 
   -- the exponent is what the sign and the digits make
-  power-run : power_in (drop place text) ≡ power_of sign digits
-  power-run =
+  power_run : power_in (drop place text) ≡ power_of sign digits
+  power_run =
       let size : sign_length (sign_in (drop (place + 1) text)) ≡ signs = sym (long ∙ ap sign_length signed) in
       let same : sign_in (drop (place + 1) text) ≡ sign = sym signed in
-      power-here text place there letter
+      power_here text place there letter
       ∙ (λ i. power_of (same i) (digits_in 2 (drop (size i) (drop (place + 1) text))))
       ∙ ap (λ (bytes : List ℕ). power_of sign (digits_in 2 bytes)) (drop-drop signs (place + 1) text)
 
   -- E without a digit behind it
-  pub power-bare : count ≡ 0 → PowerFound (drop place text) exponent_limit 0
-  power-bare none = power_none (power-run ∙ power_empty sign digits (sym run.counted ∙ none))
+  pub power_bare : count ≡ 0 → PowerFound (drop place text) exponent_limit 0
+  power_bare none = power_none (power_run ∙ power_empty sign digits (sym run.counted ∙ none))
 
   -- E with a sign and digits
   pub power_some : (count ≡ 0 → ⊥) → {minus : Bool} → minus ≡ is_minus sign
       → PowerFound (drop place text) (pick minus (exponent_limit - value) (exponent_limit + value)) (1 + signs + count)
   unfolding power_value power_bytes
   power_some some {minus} is =
-      let all : power_in (drop place text) ≡ exponent sign digits = power-run ∙ power_full sign digits (λ h. some (run.counted ∙ h)) in
+      let all : power_in (drop place text) ≡ exponent sign digits = power_run ∙ power_full sign digits (λ h. some (run.counted ∙ h)) in
       let size : value ≡ value_of digits = omega (arith, run.valued) in
       let up : pick minus (exponent_limit - value) (exponent_limit + value) ≡ power_value (exponent sign digits) =
       λ i. pick (is i) (exponent_limit - size i) (exponent_limit + size i) in
@@ -568,37 +568,37 @@ numeral_within bytes =
 
 module _ {text : List ℕ} (bytes : List ℕ) where
   -- the place behind the digits before the point
-  pub place-pointed : {start value count : ℕ} → Place text bytes start → RunFound bytes precision 0 value count
+  pub place_pointed : {start value count : ℕ} → Place text bytes start → RunFound bytes precision 0 value count
       → Place text (pointed_in bytes) (start + count)
   unfolding pointed_in integer_in
-  place-pointed p r = place_next p r.counted (digits_in_within precision bytes)
+  place_pointed p r = place_next p r.counted (digits_in_within precision bytes)
 
   -- the point and the digits there
-  pub fraction-found : {pointed start value count integers used : ℕ} → Place text (pointed_in bytes) pointed
+  pub fraction_found : {pointed start value count integers used : ℕ} → Place text (pointed_in bytes) pointed
       → RunFound bytes precision 0 start integers
       → FractionFound (drop pointed text) (precision - integers) start value count used
       → FractionFound (pointed_in bytes) (precision - length (integer_in bytes)) start value count used
   unfolding integer_in
-  fraction-found p r f = rw (← r.counted, ← p.ahead) f
+  fraction_found p r f = rw (← r.counted, ← p.ahead) f
 
   -- the place behind them
-  pub place-powered : {pointed start value count used : ℕ} → Place text (pointed_in bytes) pointed
+  pub place_powered : {pointed start value count used : ℕ} → Place text (pointed_in bytes) pointed
       → FractionFound (pointed_in bytes) (precision - length (integer_in bytes)) start value count used
       → Place text (powered_in bytes) (pointed + used)
   unfolding powered_in fraction_in
-  place-powered p f = place_next p f.spanned (point_within (precision - length (integer_in bytes)) (pointed_in bytes))
+  place_powered p f = place_next p f.spanned (point_within (precision - length (integer_in bytes)) (pointed_in bytes))
 
   -- the exponent there
-  pub power-found : {powered up used : ℕ} → Place text (powered_in bytes) powered → PowerFound (drop powered text) up used
+  pub power_found : {powered up used : ℕ} → Place text (powered_in bytes) powered → PowerFound (drop powered text) up used
       → PowerFound (powered_in bytes) up used
-  power-found p r = rw p.ahead at r
+  power_found p r = rw p.ahead at r
 
 module _ (bytes : List ℕ) {value count whole places points : ℕ} (integer : RunFound bytes precision 0 value count)
     (fraction : FractionFound (pointed_in bytes) (precision - length (integer_in bytes)) value whole places points) where
   -- the digits are those before the point and those behind it
-  digits-found : length (all_digits_of (numeral_in bytes)) ≡ count + places
+  digits_found : length (all_digits_of (numeral_in bytes)) ≡ count + places
   unfolding numeral_in fraction_in pointed_in integer_in
-  digits-found = length-append (integer_in bytes) (fraction_digits (fraction_in bytes)) ∙ omega (arith, integer.counted, fraction.counted)
+  digits_found = length-append (integer_in bytes) (fraction_digits (fraction_in bytes)) ∙ omega (arith, integer.counted, fraction.counted)
 
   -- their value is that of the two runs
   value_found : value_of (all_digits_of (numeral_in bytes)) ≡ whole
@@ -609,12 +609,12 @@ module _ (bytes : List ℕ) {value count whole places points : ℕ} (integer : R
       ∙ sym (fraction.valued ∙ ap (λ (v : ℕ). behind_value v (fraction_digits (fraction_in bytes))) before)
 
   -- the parts make the numeral
-  pub numeral-found : {up powers : ℕ} → PowerFound (powered_in bytes) up powers
+  pub numeral_found : {up powers : ℕ} → PowerFound (powered_in bytes) up powers
       → NumeralFound bytes (record { count = count + places; value = whole; places = places; up = up; used = count + points + powers })
   unfolding numeral_in powered_in fraction_in pointed_in integer_in
-  numeral-found power =
+  numeral_found power =
       record {
-        counted = sym digits-found;
+        counted = sym digits_found;
         valued = sym value_found;
         few = omega (arith, fraction_most fraction);
         placed = fraction.counted;
@@ -639,25 +639,25 @@ end_in text = drop (length (numeral_bytes (numeral_in (unsigned_in text)))) (uns
 
 module _ {text : List ℕ} where
   -- the place behind the blanks
-  pub place-signed : {before : ℕ} → before ≡ blanks_in text → Place text (signed_in text) before
+  pub place_signed : {before : ℕ} → before ≡ blanks_in text → Place text (signed_in text) before
   unfolding signed_in
-  place-signed {before} e =
+  place_signed {before} e =
       record { inside = omega (arith, blanks_within text); ahead = ap (λ (n : ℕ). drop n text) e }
 
   -- the sign there
-  pub sign-found : {before : ℕ} {sign : Sign} → Place text (signed_in text) before → sign ≡ sign_in (drop before text) → sign ≡ sign_in (signed_in text)
-  sign-found p e = e ∙ ap sign_in p.ahead
+  pub sign_found : {before : ℕ} {sign : Sign} → Place text (signed_in text) before → sign ≡ sign_in (drop before text) → sign ≡ sign_in (signed_in text)
+  sign_found p e = e ∙ ap sign_in p.ahead
 
   -- the place behind the sign
-  pub place-unsigned : {before signs : ℕ} {sign : Sign} → Place text (signed_in text) before → sign ≡ sign_in (signed_in text) → signs ≡ sign_length sign
+  pub place_unsigned : {before signs : ℕ} {sign : Sign} → Place text (signed_in text) before → sign ≡ sign_in (signed_in text) → signs ≡ sign_length sign
       → Place text (unsigned_in text) (before + signs)
   unfolding unsigned_in
-  place-unsigned p signed long = place_next p (long ∙ ap sign_length signed) (sign_within (signed_in text))
+  place_unsigned p signed long = place_next p (long ∙ ap sign_length signed) (sign_within (signed_in text))
 
   -- the numeral there
-  pub numeral-there : {start : ℕ} {n : Numeral} → Place text (unsigned_in text) start → NumeralFound (drop start text) n
+  pub numeral_there : {start : ℕ} {n : Numeral} → Place text (unsigned_in text) start → NumeralFound (drop start text) n
       → NumeralFound (unsigned_in text) n
-  numeral-there p r = rw p.ahead at r
+  numeral_there p r = rw p.ahead at r
 
   -- the place behind it
   pub place_end : {start : ℕ} {n : Numeral} → Place text (unsigned_in text) start → NumeralFound (unsigned_in text) n
@@ -666,62 +666,62 @@ module _ {text : List ℕ} where
   place_end p r = place_next p r.spanned (numeral_within (unsigned_in text))
 
   -- the blanks behind it are within the text
-  pub place-behind : {rest : List ℕ} {end behind : ℕ} → Place text rest end → behind ≡ blanks_in (drop end text) → end + behind ≤ length text
-  place-behind {rest} {end} p e = omega (arith, blanks_within (drop end text), length-drop end text, p.inside)
+  pub place_behind : {rest : List ℕ} {end behind : ℕ} → Place text rest end → behind ≡ blanks_in (drop end text) → end + behind ≤ length text
+  place_behind {rest} {end} p e = omega (arith, blanks_within (drop end text), length-drop end text, p.inside)
 
 -- The whole.
 
 module _ (text : List ℕ) where
   -- without a digit there is no text number
-  pub reading-none : length (all_digits_of (parts_in text).numeral) ≡ 0 → reading_in text ≡ no_reading
+  pub reading_none : length (all_digits_of (parts_in text).numeral) ≡ 0 → reading_in text ≡ no_reading
   unfolding reading_in
-  reading-none none = rw (eq-eqb (length (all_digits_of (parts_in text).numeral)) 0 none)
+  reading_none none = rw (eq-eqb (length (all_digits_of (parts_in text).numeral)) 0 none)
 
   -- with a digit it is that of the parts
-  pub reading-some : (length (all_digits_of (parts_in text).numeral) ≡ 0 → ⊥) → reading_in text ≡ reading_of (parts_in text)
+  pub reading_some : (length (all_digits_of (parts_in text).numeral) ≡ 0 → ⊥) → reading_in text ≡ reading_of (parts_in text)
   unfolding reading_in
-  reading-some some = rw (ne_eqb (length (all_digits_of (parts_in text).numeral)) 0 some)
+  reading_some some = rw (ne_eqb (length (all_digits_of (parts_in text).numeral)) 0 some)
 
   -- the length of none
-  pub legal-none : length (all_digits_of (parts_in text).numeral) ≡ 0 → legal_length text ≡ 0
-  legal-none none = ap (λ (r : TextReading). r.used) (reading-none none)
+  pub legal_none : length (all_digits_of (parts_in text).numeral) ≡ 0 → legal_length text ≡ 0
+  legal_none none = ap (λ (r : TextReading). r.used) (reading_none none)
 
   -- the length of the parts
-  pub legal-some : (length (all_digits_of (parts_in text).numeral) ≡ 0 → ⊥) → legal_length text ≡ length (text_bytes (parts_in text))
-  legal-some some = ap (λ (r : TextReading). r.used) (reading-some some)
+  pub legal_some : (length (all_digits_of (parts_in text).numeral) ≡ 0 → ⊥) → legal_length text ≡ length (text_bytes (parts_in text))
+  legal_some some = ap (λ (r : TextReading). r.used) (reading_some some)
 
   -- where the length is 0 there is no digit
-  pub legal-digits : legal_length text ≡ 0 → length (all_digits_of (parts_in text).numeral) ≡ 0
-  legal-digits none =
+  pub legal_digits : legal_length text ≡ 0 → length (all_digits_of (parts_in text).numeral) ≡ 0
+  legal_digits none =
       ⊎_elim
       (λ (zero : length (all_digits_of (parts_in text).numeral) ≡ 0). zero)
-      (λ (some : length (all_digits_of (parts_in text).numeral) ≡ 0 → ⊥). omega (arith, legal-some some, text_long (parts_in text)))
+      (λ (some : length (all_digits_of (parts_in text).numeral) ≡ 0 → ⊥). omega (arith, legal_some some, text_long (parts_in text)))
       (zero_or_not (length (all_digits_of (parts_in text).numeral)))
 
   -- so there is no text number
-  pub reading-empty : legal_length text ≡ 0 → reading_in text ≡ no_reading
-  reading-empty none = reading-none (legal-digits none)
+  pub reading_empty : legal_length text ≡ 0 → reading_in text ≡ no_reading
+  reading_empty none = reading_none (legal_digits none)
 
   -- else its number is that of the parts
-  pub reading-number : (legal_length text ≡ 0 → ⊥) → (reading_in text).number ≡ text_value (parts_in text)
-  reading-number some =
-      ap (λ (r : TextReading). r.number) (reading-some (λ (z : length (all_digits_of (parts_in text).numeral) ≡ 0). some (legal-none z)))
+  pub reading_number : (legal_length text ≡ 0 → ⊥) → (reading_in text).number ≡ text_value (parts_in text)
+  reading_number some =
+      ap (λ (r : TextReading). r.number) (reading_some (λ (z : length (all_digits_of (parts_in text).numeral) ≡ 0). some (legal_none z)))
 
   -- a text that is a text number to its end has the number that is read
-  pub convert-whole : legal_length text ≡ length text → convert_text text ≡ (reading_in text).number
+  pub convert_whole : legal_length text ≡ length text → convert_text text ≡ (reading_in text).number
   unfolding convert_text
-  convert-whole whole = rw (eq-eqb (legal_length text) (length text) whole)
+  convert_whole whole = rw (eq-eqb (legal_length text) (length text) whole)
 
   -- another text has none
-  pub convert-other : (legal_length text ≡ length text → ⊥) → convert_text text ≡ refused 8 0
+  pub convert_other : (legal_length text ≡ length text → ⊥) → convert_text text ≡ refused 8 0
   unfolding convert_text
-  convert-other other = rw (ne_eqb (legal_length text) (length text) other)
+  convert_other other = rw (ne_eqb (legal_length text) (length text) other)
 
   module _ {n : Numeral} (numeral : NumeralFound (unsigned_in text) n) where
     -- no digit was read
     pub read_none : n.count ≡ 0 → no_reading ≡ reading_in text
     unfolding parts_in unsigned_in signed_in
-    read_none none = sym (reading-none (sym numeral.counted ∙ none))
+    read_none none = sym (reading_none (sym numeral.counted ∙ none))
 
     -- digits were read, and the parts make the text
     pub read_some : {before signs behind : ℕ} {sign : Sign} {minus : Bool} {number : Answer Number}
@@ -743,14 +743,14 @@ module _ (text : List ℕ) where
         let value-is : number ≡ text_value t = scaled ∙ (λ i. scaled_number 0 (minus_is i) (numeral.valued i) (numeral.powered i) (down_is i)) in
         let size_is : before + signs + n.used + behind ≡ length (text_bytes t) =
         omega (arith, text_length_lem t, first, signs-are, numeral.spanned, last) in
-        (λ i. record { used = size_is i; number = value-is i }) ∙ sym (reading-some digits)
+        (λ i. record { used = size_is i; number = value-is i }) ∙ sym (reading_some digits)
 
 -- What an answer that is the reading of bytes says.
 
 module _ (bytes : List ℕ) {used : ℕ} {number : Answer Number} (e : ◌≡◌ {A = TextReading} (record { used = used; number = number }) (reading_in bytes)) where
   -- its length
-  pub read-used : used ≡ legal_length bytes
-  read-used = ap (λ (r : TextReading). r.used) e
+  pub read_used_lem : used ≡ legal_length bytes
+  read_used_lem = ap (λ (r : TextReading). r.used) e
 
   -- its number
   pub read_number : (reading_in bytes).number ≡ number
@@ -765,24 +765,24 @@ module _ (bytes : List ℕ) where
   reads_none none = rw (eq-eqb (legal_length bytes) 0 none)
 
   -- a number with the legal length
-  abbrev withLength : Number → Answer TextNumber
-  withLength n = done (record { number = n; used = legal_length bytes })
+  abbrev with_length : Number → Answer TextNumber
+  with_length n = done (record { number = n; used = legal_length bytes })
 
   -- it is the number with the legal length, also where that is 0 and there is none
-  reads_then : read_text bytes ≡ ((reading_in bytes).number then withLength)
+  reads_then : read_text bytes ≡ ((reading_in bytes).number then with_length)
   unfolding read_text
   reads_then =
       ⊎_elim
       (λ (none : legal_length bytes ≡ 0).
-      reads_none none ∙ sym (then_refused withLength (ap (λ (r : TextReading). r.number) (reading-empty bytes none))))
+      reads_none none ∙ sym (then_refused with_length (ap (λ (r : TextReading). r.number) (reading_empty bytes none))))
       (λ (some : legal_length bytes ≡ 0 → ⊥). rw (ne_eqb (legal_length bytes) 0 some))
       (zero_or_not (legal_length bytes))
 
   -- a number
-  pub reads-number : {n : Number} {used : ℕ} → used ≡ legal_length bytes → (reading_in bytes).number ≡ done n
+  pub reads_number : {n : Number} {used : ℕ} → used ≡ legal_length bytes → (reading_in bytes).number ≡ done n
       → read_text bytes ≡ done (record { number = n; used = used })
-  reads-number {n} size e = reads_then ∙ then_next withLength e ∙ (λ i. done (record { number = n; used = sym size i }))
+  reads_number {n} size e = reads_then ∙ then_next with_length e ∙ (λ i. done (record { number = n; used = sym size i }))
 
   -- a refusal
   pub reads_refused : {number place : ℕ} → (reading_in bytes).number ≡ refused number place → read_text bytes ≡ refused number place
-  reads_refused e = reads_then ∙ then_refused withLength e
+  reads_refused e = reads_then ∙ then_refused with_length e

@@ -24,7 +24,7 @@ use Rattle.codec.specs.Columns.{AllChecked, none, more}
 use Rattle.codec.specs.Contents.{Table, read_alone, contents_of, check_each, check_images}
 use Rattle.codec.specs.Packing.{pack_list, body_of, pack_under, packing_under, packing}
 use Rattle.codec.specs.Unpacking.{unpack_body, unpack_under, unpacking}
-use Rattle.codec.proofs.ListLaws.{default_free, filled-length, filled_at, filled-front, filled-take, taken-from}
+use Rattle.codec.proofs.ListLaws.{default_free, filled_length, filled_at, filled_front, filled_take, taken_from}
 use Rattle.decimal.proofs.AnswerLaws.{never_done, then_done}
 use Rattle.codec.proofs.ContentsLaws.{Sound, alone_sound, ReadOk, alone_read}
 
@@ -62,35 +62,35 @@ checks_checked ims h = go (leb 1 (length ims) && leb (length ims) max_columns) r
 
 module _ (ims : List Image) where
   -- 1 to 16 images are refused as the first of them that is
-  checks-each : 1 ≤ length ims → length ims ≤ max_columns → check_images ims ≡ check_each 0 ims
+  checks_each : 1 ≤ length ims → length ims ≤ max_columns → check_images ims ≡ check_each 0 ims
   unfolding check_images
-  checks-each low high = rw (le-leb 1 (length ims) low, le-leb (length ims) max_columns high)
+  checks_each low high = rw (le-leb 1 (length ims) low, le-leb (length ims) max_columns high)
 
   -- no image
-  checks-none : length ims < 1 → check_images ims ≡ refused 10 0
+  checks_none : length ims < 1 → check_images ims ≡ refused 10 0
   unfolding check_images
-  checks-none h = rw (lt-leb 1 (length ims) h)
+  checks_none h = rw (lt-leb 1 (length ims) h)
 
   -- more than 16
-  checks-many : 1 ≤ length ims → max_columns < length ims → check_images ims ≡ refused 10 0
+  checks_many : 1 ≤ length ims → max_columns < length ims → check_images ims ≡ refused 10 0
   unfolding check_images
-  checks-many low h = rw (le-leb 1 (length ims) low, lt-leb (length ims) max_columns h)
+  checks_many low h = rw (le-leb 1 (length ims) low, lt-leb (length ims) max_columns h)
 
 -- the images of a contents are not refused
 pub checked_checks : {ims : List Image} → AllChecked ims → 1 ≤ length ims → length ims ≤ max_columns → check_images ims ≡ done tt
-checked_checks {ims} all low high = checks-each ims low high ∙ checked_each all 0
+checked_checks {ims} all low high = checks_each ims low high ∙ checked_each all 0
 
 -- The list that an array of images and their count stand for.
 
 -- it has as many images as the count says
 pub image_count : (images : Images) → length (image_list images) ≡ images.count
 unfolding image_list
-image_count images = filled-length no_image images.count images.values
+image_count images = filled_length no_image images.count images.values
 
 -- and they are the array's first
 pub image_list_lem : (images : Images) → images.count ≤ length images.values → image_list images ≡ take images.count images.values
 unfolding image_list
-image_list_lem images h = filled-take no_image images.count images.values h
+image_list_lem images h = filled_take no_image images.count images.values h
 
 -- each in its place
 pub image_at :
@@ -109,25 +109,25 @@ unfolding contents_of
 told_images table few {r} h =
     let ims : List Image = table.images in
     ap (λ (x : Contents). image_list x.images) h
-    ∙ image_list_lem (record { values = filled max_columns no_image ims; count = length ims }) (omega (arith, filled-length no_image max_columns ims))
-    ∙ filled-front no_image max_columns ims few
+    ∙ image_list_lem (record { values = filled max_columns no_image ims; count = length ims }) (omega (arith, filled_length no_image max_columns ims))
+    ∙ filled_front no_image max_columns ims few
 
 -- Checking the images of an array from the left.
 
 module _ (images : Images) where
   -- refused with 10 for no image
   pub count_none : images.count < 1 → check_images (image_list images) ≡ refused 10 0
-  count_none h = checks-none (image_list images) (omega (arith, image_count images))
+  count_none h = checks_none (image_list images) (omega (arith, image_count images))
 
   -- and for more than 16
-  pub count-many : max_columns < images.count → check_images (image_list images) ≡ refused 10 0
-  count-many h = checks-many (image_list images) (omega (arith, image_count images)) (omega (arith, image_count images))
+  pub count_many : max_columns < images.count → check_images (image_list images) ≡ refused 10 0
+  count_many h = checks_many (image_list images) (omega (arith, image_count images)) (omega (arith, image_count images))
 
   module _ (long : images.count ≤ length images.values) where
     -- else as the first image that is
     pub count-each : 1 ≤ images.count → images.count ≤ max_columns → check_images (image_list images) ≡ check_each 0 (take images.count images.values)
     count-each low high =
-        checks-each (image_list images) (omega (arith, image_count images)) (omega (arith, image_count images))
+        checks_each (image_list images) (omega (arith, image_count images)) (omega (arith, image_count images))
         ∙ ap (check_each 0) (image_list_lem images long)
 
     module _ (k : ℕ) (d : Image) (here : k < images.count) where
@@ -138,7 +138,7 @@ module _ (images : Images) where
           → check_each k (drop k (take images.count images.values)) ≡ check_each (k + 1) (drop (k + 1) (take images.count images.values))
       unfolding check_each ◌then◌
       each_turn h =
-          ap (check_each k) (taken-from d images.count images.values k here long)
+          ap (check_each k) (taken_from d images.count images.values k here long)
           ∙ rw h
           (ap (λ (i : ℕ). check_each i (drop i (take images.count images.values))) (sym (add-one k)))
 
@@ -148,7 +148,7 @@ module _ (images : Images) where
           → check_image k (get_or images.values k d) ≡ refused number place
           → check_each k (drop k (take images.count images.values)) ≡ refused number place
       unfolding check_each ◌then◌
-      each-refused h = ap (check_each k) (taken-from d images.count images.values k here long) ∙ rw h
+      each-refused h = ap (check_each k) (taken_from d images.count images.values k here long) ∙ rw h
 
     -- behind the last image nothing is refused
     pub each-end : (k : ℕ) → images.count ≤ k → check_each k (drop k (take images.count images.values)) ≡ done tt
@@ -201,17 +201,17 @@ unpacking_same contents body {table} h = rw (h, unpack_under_checked table.image
 
 module _ (contents : List ℕ) (r : Contents) (told : r ≡ contents_of (read_alone contents)) (reads : r.answer ≡ checks.Fine) where
   -- the code's images of a contents that was read are its own
-  pub lent-images : (ok : ReadOk contents r) → image_list r.images ≡ ok.table.images
-  lent-images ok = told_images ok.table (alone_sound contents ok.reads).high (told ∙ ap contents_of ok.reads)
+  pub lent_images : (ok : ReadOk contents r) → image_list r.images ≡ ok.table.images
+  lent_images ok = told_images ok.table (alone_sound contents ok.reads).high (told ∙ ap contents_of ok.reads)
 
   -- so the code packs under the contents
-  pub packing-lent : (ns : List Number) (room : ℕ) → packing contents ns room ≡ packing_under (image_list r.images) ns room
-  packing-lent ns room =
+  pub packing_lent : (ns : List Number) (room : ℕ) → packing contents ns room ≡ packing_under (image_list r.images) ns room
+  packing_lent ns room =
       let ok = alone_read contents r told reads in
-      packing_same contents ns room ok.reads ∙ ap (λ (ims : List Image). packing_under ims ns room) (sym (lent-images ok))
+      packing_same contents ns room ok.reads ∙ ap (λ (ims : List Image). packing_under ims ns room) (sym (lent_images ok))
 
   -- and reads back under it
-  pub unpacking-lent : (body : List ℕ) → unpacking contents body ≡ unpack_under (image_list r.images) body
-  unpacking-lent body =
+  pub unpacking_lent : (body : List ℕ) → unpacking contents body ≡ unpack_under (image_list r.images) body
+  unpacking_lent body =
       let ok = alone_read contents r told reads in
-      unpacking_same contents body ok.reads ∙ ap (λ (ims : List Image). unpack_under ims body) (sym (lent-images ok))
+      unpacking_same contents body ok.reads ∙ ap (λ (ims : List Image). unpack_under ims body) (sym (lent_images ok))

@@ -32,7 +32,7 @@ use Rattle.codec.specs.declared.unpacking.Unpacked.{Unpacked}
 use Rattle.codec.specs.Lists.{filled, any_of, max_columns, no_image, image_list}
 use Rattle.codec.specs.Columns.{sign_count, exponent_count, half_count, pad_count, column_size, body_size, Checked, AllChecked}
 use Rattle.codec.specs.Contents.{read_alone, check_images}
-use Rattle.codec.proofs.ListLaws.{filled_at, filled-front, filled-set}
+use Rattle.codec.proofs.ListLaws.{filled_at, filled_front, filled_set}
 use Rattle.codec.proofs.ContentsLaws.{column_halves_lem, column_few, checked_at}
 use Rattle.codec.proofs.UnderLaws.{checks_checked, image_count, unpack_under_checked}
 use Rattle.codec.specs.Halves.{halves_of}
@@ -84,9 +84,9 @@ run_starts bytes start from inside digit =
 module _ {bytes : List ℕ} {whole : Answer ℕ} {value i w : ℕ} (r : ReadingRun bytes whole value i) (more : i < length bytes)
     (worth : w ≡ worth_of (get_or bytes i 0)) where
   -- a byte with two digits is read
-  pub run-turns : (w ≡ 255 → ⊥) → ReadingRun bytes whole (value * 100 + w) (i + 1)
+  pub run_turns : (w ≡ 255 → ⊥) → ReadingRun bytes whole (value * 100 + w) (i + 1)
   unfolding halves_of worth_of
-  run-turns some =
+  run_turns some =
       let b = get_or bytes i 0 in
       let two = two_read (b / 16) (b % 16) value w (halves_of (drop (suc i) bytes)) worth some in
       let count : suc (i + 1 + (i + 1)) ≡ suc (suc (suc (i + i))) = omega arith in
@@ -99,9 +99,9 @@ module _ {bytes : List ℕ} {whole : Answer ℕ} {value i w : ℕ} (r : ReadingR
       }
 
   -- a byte with another half
-  pub run-stops : w ≡ 255 → whole ≡ refused 7 0
+  pub run_stops : w ≡ 255 → whole ≡ refused 7 0
   unfolding halves_of worth_of
-  run-stops none =
+  run_stops none =
       let b = get_or bytes i 0 in
       sym r.rest
       ∙ ap (λ (l : List ℕ). read_on value (halves_of l)) (drop-cons bytes i 0 more)
@@ -208,13 +208,13 @@ none_left (x ∷ xs) h = absurd (omega arith)
 
 module _ (column : ℕ) (im : Image) (sign : ℕ) where
   -- the digits and the exponent's digits, as one whole number
-  unpadded-parts :
+  unpadded_parts :
       (ds es : List ℕ)
       → length es ≡ exponent_count im.exponential
       → Digits es
       → unpadded_number column im sign (value_of (ds ++ es)) ≡ parts_number column im sign (value_of ds) (value_of es)
   unfolding unpadded_number value_of
-  unpadded-parts ds es sized digits = go im.exponential refl
+  unpadded_parts ds es sized digits = go im.exponential refl
     where
       go : (b : Bool) → im.exponential ≡ b
           → unpadded_number column im sign (value_of (ds ++ es)) ≡ parts_number column im sign (value_of ds) (value_of es)
@@ -229,15 +229,15 @@ module _ (column : ℕ) (im : Image) (sign : ℕ) where
           rw (kind, none, append-nil ds)
 
   -- the padding behind digits
-  padded-parts :
+  padded_parts :
       (xs ps : List ℕ)
       → length ps ≡ pad_count im
       → pick (all_digits ps) (run_number column im sign (value_of (xs ++ ps))) (refused 7 column)
       ≡ pick (all_zero ps) (unpadded_number column im sign (value_of xs)) (refused 7 column)
   unfolding run_number all_digits all_zero value_of
-  padded-parts xs [] sized = rw (append-nil xs, eq-eqb (pad_count im) 0 (sym sized))
-  padded-parts xs (p ∷ (q ∷ ps)) sized = absurd (omega (arith, mod-lt (half_count im) {m = 2} (omega arith)))
-  padded-parts xs (p ∷ []) sized = ⊎_elim digit other (le_or_lt p 9)
+  padded_parts xs [] sized = rw (append-nil xs, eq-eqb (pad_count im) 0 (sym sized))
+  padded_parts xs (p ∷ (q ∷ ps)) sized = absurd (omega (arith, mod-lt (half_count im) {m = 2} (omega arith)))
+  padded_parts xs (p ∷ []) sized = ⊎_elim digit other (le_or_lt p 9)
     where
       some : pad_count im ≡ 0 → ⊥
       some h = omega arith
@@ -265,7 +265,7 @@ module _ (column : ℕ) (im : Image) (sign : ℕ) where
           rw (le-ltb p 10 above, ne_eqb p 0 not-zero)
 
   -- the parts of the halves behind the sign half, and all of them as one whole number
-  parts-run :
+  parts_run :
       (ds es ps : List ℕ)
       → length es ≡ exponent_count im.exponential
       → length ps ≡ pad_count im
@@ -273,7 +273,7 @@ module _ (column : ℕ) (im : Image) (sign : ℕ) where
       (refused 7 column)
       (parts_number column im sign (value_of ds) (value_of es))
       ≡ pick (all_digits (ds ++ (es ++ ps))) (run_number column im sign (value_of (ds ++ (es ++ ps)))) (refused 7 column)
-  parts-run ds es ps exponents pads = go (all_digits ds) (all_digits es) refl refl
+  parts_run ds es ps exponents pads = go (all_digits ds) (all_digits es) refl refl
     where
       all : all_digits (ds ++ (es ++ ps)) ≡ (all_digits ds && (all_digits es && all_digits ps))
       all = all_append ds (es ++ ps) ∙ ap (λ (b : Bool). all_digits ds && b) (all_append es ps)
@@ -292,8 +292,8 @@ module _ (column : ℕ) (im : Image) (sign : ℕ) where
       go true true p q =
           rw (all, p, q, ← append_assoc ds es ps)
           (turned (all_zero ps) (refused 7 column) (parts_number column im sign (value_of ds) (value_of es))
-          ∙ ap (λ (n : Answer Number). pick (all_zero ps) n (refused 7 column)) (sym (unpadded-parts ds es exponents (all_digits_lem es q)))
-          ∙ sym (padded-parts (ds ++ es) ps pads))
+          ∙ ap (λ (n : Answer Number). pick (all_zero ps) n (refused 7 column)) (sym (unpadded_parts ds es exponents (all_digits_lem es q)))
+          ∙ sym (padded_parts (ds ++ es) ps pads))
 
 module _ (column : ℕ) (im : Image) (hs : List ℕ) (sized : length hs ≡ half_count im + pad_count im) where
   -- the number of a column's halves is that of its sign half and of the others as one whole number
@@ -317,7 +317,7 @@ module _ (column : ℕ) (im : Image) (hs : List ℕ) (sized : length hs ≡ half
       let exponents : length (take e (drop n ds)) ≡ e = length-take-le e (drop n ds) (omega arith) in
       let pads : length (drop e (drop n ds)) ≡ pad_count im = omega (arith, length-drop e (drop n ds)) in
       rw (behind, last)
-      (parts-run column im (sign_part im.sign hs) (take n ds) (take e (drop n ds)) (drop e (drop n ds)) exponents pads ∙ rw joined)
+      (parts_run column im (sign_part im.sign hs) (take n ds) (take e (drop n ds)) (drop e (drop n ds)) exponents pads ∙ rw joined)
 
 -- a byte has two halves
 halves_length : (bytes : List ℕ) → length (halves_of bytes) ≡ length bytes + length bytes
@@ -335,37 +335,37 @@ sign_half_lem Minus hs = refl
 module _ (column : ℕ) (im : Image) (bytes : List ℕ) (checked : Checked im) (sized : length bytes ≡ column_size im) {signs : ℕ}
     (signed : signs ≡ sign_count im.sign) where
   -- the number of a column's bytes, by the halves behind its sign half
-  column-whole :
+  column_whole :
       unpack_column column im bytes
       ≡ pick (all_digits (drop signs (halves_of bytes)))
       (run_number column im (first_half signs (halves_of bytes)) (value_of (drop signs (halves_of bytes))))
       (refused 7 column)
   unfolding unpack_column
-  column-whole =
+  column_whole =
       let halves : length (halves_of bytes) ≡ half_count im + pad_count im = omega (arith, halves_length bytes, column_halves_lem im) in
       rw (signed, sign_half_lem im.sign (halves_of bytes)) (halves_run column im (halves_of bytes) halves)
 
   -- a column whose halves behind the sign half are digits
-  pub column-run :
+  pub column_run :
       {v half : ℕ}
       → read_on 0 (drop signs (halves_of bytes)) ≡ done v
       → half ≡ first_half signs (halves_of bytes)
       → unpack_column column im bytes ≡ run_number column im half v
-  column-run {v} {half} h e =
+  column_run {v} {half} h e =
       let value = read_value (drop signs (halves_of bytes)) h in
-      column-whole ∙ rw (value.0, ← value.1, ← e)
+      column_whole ∙ rw (value.0, ← value.1, ← e)
 
   -- their value is within a u64
-  pub column-small : {v : ℕ} → read_on 0 (drop signs (halves_of bytes)) ≡ done v → v < run_limit
-  column-small {v} h =
+  pub column_small : {v : ℕ} → read_on 0 (drop signs (halves_of bytes)) ≡ done v → v < run_limit
+  column_small {v} h =
       let ds = drop signs (halves_of bytes) in
       let value = read_value ds h in
       let few : length ds ≤ 18 = omega (arith, length-drop signs (halves_of bytes), halves_length bytes, column_few checked) in
       omega (arith, value_below ds (all_digits_lem ds value.0), value.1, pow10_mono few)
 
   -- a column with another half
-  pub column-bad : read_on 0 (drop signs (halves_of bytes)) ≡ refused 7 0 → unpack_column column im bytes ≡ refused 7 column
-  column-bad h = column-whole ∙ rw (read_none (drop signs (halves_of bytes)) h)
+  pub column_bad : read_on 0 (drop signs (halves_of bytes)) ≡ refused 7 0 → unpack_column column im bytes ≡ refused 7 column
+  column_bad h = column_whole ∙ rw (read_none (drop signs (halves_of bytes)) h)
 
 -- The rules, in the code's order.
 
@@ -376,9 +376,9 @@ and_none false = refl
 
 module _ (im : Image) (sign whole size : ℕ) where
   -- another sign half
-  pub breaks-other : 2 ≤ sign % 8 → breaks_rules im sign whole size ≡ true
+  pub breaks_other : 2 ≤ sign % 8 → breaks_rules im sign whole size ≡ true
   unfolding breaks_rules
-  breaks-other h = rw (le-leb 2 (sign % 8) h)
+  breaks_other h = rw (le-leb 2 (sign % 8) h)
 
   module _ (low : sign % 8 < 2) where
     module _ (none : whole ≡ 0) where
@@ -447,57 +447,57 @@ module _ (im : Image) (sign whole size : ℕ) where
 
 module _ (column : ℕ) (im : Image) (sign : ℕ) where
   -- parts that break a rule
-  pub parts-broken : (whole size : ℕ) → breaks_rules im sign whole size ≡ true → parts_number column im sign whole size ≡ refused 7 column
+  pub parts_broken : (whole size : ℕ) → breaks_rules im sign whole size ≡ true → parts_number column im sign whole size ≡ refused 7 column
   unfolding parts_number
-  parts-broken whole size h = rw h
+  parts_broken whole size h = rw h
 
   -- parts that break none
-  pub parts-kept :
+  pub parts_kept :
       (whole size : ℕ)
       → breaks_rules im sign whole size ≡ false
       → parts_number column im sign whole size
       ≡ as_half column
       (scaled_number column (minus_bit sign) whole (pick (below_bit sign) (exponent_limit - size) (exponent_limit + size)) (exponent_limit + im.fraction))
   unfolding parts_number number_of said_by
-  parts-kept whole size h = rw h
+  parts_kept whole size h = rw h
 
   -- the parts of an exponential image
-  pub unpadded-exponential :
+  pub unpadded_exponential :
       (value : ℕ) → im.exponential ≡ true → unpadded_number column im sign value ≡ parts_number column im sign (value / 100) (value % 100)
   unfolding unpadded_number
-  unpadded-exponential value kind = rw kind
+  unpadded_exponential value kind = rw kind
 
   -- and of one in fixed point
-  pub unpadded-fixed : (value : ℕ) → im.exponential ≡ false → unpadded_number column im sign value ≡ parts_number column im sign value 0
+  pub unpadded_fixed : (value : ℕ) → im.exponential ≡ false → unpadded_number column im sign value ≡ parts_number column im sign value 0
   unfolding unpadded_number
-  unpadded-fixed value kind = rw kind
+  unpadded_fixed value kind = rw kind
 
   -- no padding
-  pub run-even : (value : ℕ) → pad_count im ≡ 0 → run_number column im sign value ≡ unpadded_number column im sign value
+  pub run_even : (value : ℕ) → pad_count im ≡ 0 → run_number column im sign value ≡ unpadded_number column im sign value
   unfolding run_number
-  run-even value even = rw (eq-eqb (pad_count im) 0 even)
+  run_even value even = rw (eq-eqb (pad_count im) 0 even)
 
   -- a padding that is 0
-  pub run-zero :
+  pub run_zero :
       (value : ℕ) → (pad_count im ≡ 0 → ⊥) → value % 10 ≡ 0 → run_number column im sign value ≡ unpadded_number column im sign (value / 10)
   unfolding run_number
-  run-zero value odd z = rw (ne_eqb (pad_count im) 0 odd, eq-eqb (value % 10) 0 z)
+  run_zero value odd z = rw (ne_eqb (pad_count im) 0 odd, eq-eqb (value % 10) 0 z)
 
   -- another padding
-  pub run-other : (value : ℕ) → (pad_count im ≡ 0 → ⊥) → (value % 10 ≡ 0 → ⊥) → run_number column im sign value ≡ refused 7 column
+  pub run_other : (value : ℕ) → (pad_count im ≡ 0 → ⊥) → (value % 10 ≡ 0 → ⊥) → run_number column im sign value ≡ refused 7 column
   unfolding run_number
-  run-other value odd n = rw (ne_eqb (pad_count im) 0 odd, ne_eqb (value % 10) 0 n)
+  run_other value odd n = rw (ne_eqb (pad_count im) 0 odd, ne_eqb (value % 10) 0 n)
 
 -- The images of a list that is not refused.
 
 module _ (images : Images) (good : check_images (image_list images) ≡ done tt) where
   -- the array has room for them
-  pub images-few : images.count ≤ max_columns
-  images-few = omega (arith, image_count images, (checks_checked (image_list images) good).high)
+  pub images_few : images.count ≤ max_columns
+  images_few = omega (arith, image_count images, (checks_checked (image_list images) good).high)
 
   -- each has 1 to 13 # signs
-  pub images-checked : AllChecked (image_list images)
-  images-checked = (checks_checked (image_list images) good).all
+  pub images_checked : AllChecked (image_list images)
+  images_checked = (checks_checked (image_list images) good).all
 
   module _ (column : ℕ) (here : column < images.count) where
     -- the list has the next one
@@ -511,7 +511,7 @@ module _ (images : Images) (good : check_images (image_list images) ≡ done tt)
 
     -- its count of # signs is within the limits
     pub image-checked : Checked (get_or images.values column no_image)
-    image-checked = rw image-picked (checked_at images-checked column image-further)
+    image-checked = rw image-picked (checked_at images_checked column image-further)
 
 -- The columns, from the left.
 
@@ -548,25 +548,25 @@ columns_start ims body sized =
 module _ {ims : List Image} {body : List ℕ} {values : List Number} {start column : ℕ} {im : Image} (u : Unpacking ims body values start column)
     (more : column < length ims) (image : im ≡ get_or ims column no_image) where
   -- the next column stands before those that are left
-  next-column : drop column ims ≡ im ∷ drop (suc column) ims
-  next-column = rw image (drop-cons ims column no_image more)
+  next_column : drop column ims ≡ im ∷ drop (suc column) ims
+  next_column = rw image (drop-cons ims column no_image more)
 
   -- its size is part of what is left
-  columns-left : body_size (drop column ims) ≡ column_size im + body_size (drop (suc column) ims)
+  columns_left : body_size (drop column ims) ≡ column_size im + body_size (drop (suc column) ims)
   unfolding body_size
-  columns-left = ap body_size next-column
+  columns_left = ap body_size next_column
 
   -- the next column is inside the body
   pub column_inside : start + column_size im ≤ length body
-  column_inside = omega (arith, columns-left, u.left)
+  column_inside = omega (arith, columns_left, u.left)
 
   -- and its number comes first
-  columns-rest :
+  columns_rest :
       unpack_columns column (drop column ims) (drop start body)
       ≡ (unpack_column column im (take (column_size im) (drop start body)) then λ (n : Number).
       (unpack_columns (suc column) (drop (suc column) ims) (drop (start + column_size im) body) then λ (ns : List Number). done (n ∷ ns)))
   unfolding unpack_columns
-  columns-rest = rw (next-column, drop-drop (column_size im) start body)
+  columns_rest = rw (next_column, drop-drop (column_size im) start body)
 
   module _ {size : ℕ} (sized : size ≡ column_size im) where
     -- the part of the body that the code lends
@@ -582,7 +582,7 @@ module _ {ims : List Image} {body : List ℕ} {values : List Number} {start colu
         → unpack_column column im (take (start + size - start) (drop start body)) ≡ refused number place
         → unpack_columns 0 ims body ≡ refused number place
     unfolding ◌then◌
-    columns_refused h = u.rest ∙ rw (columns-rest, sym same-part ∙ h)
+    columns_refused h = u.rest ∙ rw (columns_rest, sym same-part ∙ h)
 
     -- a column that is read
     pub columns_turn :
@@ -596,12 +596,12 @@ module _ {ims : List Image} {body : List ℕ} {values : List Number} {start colu
         (record {
           numbers = u.numbers ++ (n ∷ []);
           counted = omega (arith, length-append u.numbers (n ∷ []), u.counted);
-          stored = rw (u.stored, ← u.counted) (filled-set zero_number max_columns u.numbers n (omega (arith, u.counted)));
+          stored = rw (u.stored, ← u.counted) (filled_set zero_number max_columns u.numbers n (omega (arith, u.counted)));
           inside = omega arith;
-          left = rw (add-one column) (omega (arith, columns-left, u.left));
+          left = rw (add-one column) (omega (arith, columns_left, u.left));
           rest =
               u.rest
-              ∙ rw (columns-rest, sym same-part ∙ h, add-one column)
+              ∙ rw (columns_rest, sym same-part ∙ h, add-one column)
               (then_twice (unpack_columns (suc column) (drop (suc column) ims) (drop (start + column_size im) body)) u.numbers n);
         })
 
@@ -639,9 +639,9 @@ unpacking_refused contents body h = rw h
 
 module _ (ims : List Image) (body : List ℕ) where
   -- images that are refused
-  pub under-refused : {number place : ℕ} → check_images ims ≡ refused number place → unpack_under ims body ≡ refused number place
+  pub under_refused : {number place : ℕ} → check_images ims ≡ refused number place → unpack_under ims body ≡ refused number place
   unfolding unpack_under ◌then◌
-  under-refused h = rw h
+  under_refused h = rw h
 
   module _ (good : check_images ims ≡ done tt) where
     -- a body of another length
@@ -692,7 +692,7 @@ pub unpack_values :
     → take (length ns) u.numbers.values ≡ ns
 unfolding unpacked_of
 unpack_values a {u} {ns} h e few =
-    ap (λ (k : Unpacked). take (length ns) k.numbers.values) (h ∙ ap unpacked_of e) ∙ filled-front zero_number max_columns ns few
+    ap (λ (k : Unpacked). take (length ns) k.numbers.values) (h ∙ ap unpacked_of e) ∙ filled_front zero_number max_columns ns few
 
 -- each in its place
 pub unpack_at :

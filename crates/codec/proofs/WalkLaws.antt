@@ -22,8 +22,8 @@ use Rattle.codec.specs.Lists.{filled, max_columns}
 use Rattle.codec.specs.Alpha.{blank_byte}
 use Rattle.codec.specs.Text.{all_digits_of, blanks_in, parts_in, no_reading, reading_in, legal_length}
 use Rattle.codec.specs.Walking.{bytes_before, number_place, Walk, stop_before, stopped, with_number, numbers_in, walking, walked_of}
-use Rattle.codec.proofs.ListLaws.{filled-set}
-use Rattle.codec.proofs.TextLaws.{legal-none, legal-digits}
+use Rattle.codec.proofs.ListLaws.{filled_set}
+use Rattle.codec.proofs.TextLaws.{legal_none, legal_digits}
 use Rattle.codec.proofs.LongestTheorem.{longest, empty_length, empty_reading}
 
 -- The next text number.
@@ -75,10 +75,10 @@ digits_over bytes = rw (blanks_over bytes)
 
 -- Published: a text number begins at blanks exactly where one begins behind them.
 pub begins_over : (bytes : List ℕ) → legal_length (drop (blanks_in bytes) bytes) ≡ 0 → legal_length bytes ≡ 0
-begins_over bytes none = legal-none bytes (sym (ap length (digits_over bytes)) ∙ legal-digits (drop (blanks_in bytes) bytes) none)
+begins_over bytes none = legal_none bytes (sym (ap length (digits_over bytes)) ∙ legal_digits (drop (blanks_in bytes) bytes) none)
 
 pub begins_behind : (bytes : List ℕ) → legal_length bytes ≡ 0 → legal_length (drop (blanks_in bytes) bytes) ≡ 0
-begins_behind bytes none = legal-none (drop (blanks_in bytes) bytes) (ap length (digits_over bytes) ∙ legal-digits bytes none)
+begins_behind bytes none = legal_none (drop (blanks_in bytes) bytes) (ap length (digits_over bytes) ∙ legal_digits bytes none)
 
 -- where none begins behind the blanks, none begins among them
 before_over : (bytes : List ℕ) → legal_length (drop (blanks_in bytes) bytes) ≡ 0
@@ -105,25 +105,25 @@ Skipping text from place = place + bytes_before (drop place text) ≡ number_pla
 
 module _ (text : List ℕ) (place : ℕ) (inside : place < length text) where
   -- a text number begins at a place
-  before-some : (legal_length (drop place text) ≡ 0 → ⊥) → bytes_before (drop place text) ≡ 0
+  before_some : (legal_length (drop place text) ≡ 0 → ⊥) → bytes_before (drop place text) ≡ 0
   unfolding bytes_before
-  before-some some =
+  before_some some =
       let cons = drop-cons text place 0 inside in
       ap bytes_before cons ∙ rw (ne_eqb (legal_length (get_or text place 0 ∷ drop (suc place) text)) 0 (λ e. some (ap legal_length cons ∙ e)))
 
   -- none begins there
-  before-none : legal_length (drop place text) ≡ 0 → bytes_before (drop place text) ≡ suc (bytes_before (drop (place + 1) text))
+  before_none : legal_length (drop place text) ≡ 0 → bytes_before (drop place text) ≡ suc (bytes_before (drop (place + 1) text))
   unfolding bytes_before
-  before-none none =
+  before_none none =
       let cons = drop-cons text place 0 inside in
       rw (add-one place)
       (ap bytes_before cons ∙ rw (eq-eqb (legal_length (get_or text place 0 ∷ drop (suc place) text)) 0 (sym (ap legal_length cons) ∙ none)))
 
 module _ (text : List ℕ) (from : ℕ) where
   -- the start
-  pub skip-starts : Skipping text from from
+  pub skip_starts : Skipping text from from
   unfolding number_place
-  skip-starts = refl
+  skip_starts = refl
 
   module _ (place : ℕ) (skipping : Skipping text from place) where
     -- a text number begins behind the blanks that stand here
@@ -133,7 +133,7 @@ module _ (text : List ℕ) (from : ℕ) where
         let bytes = drop place text in
         let behind : drop (place + blanks) text ≡ drop (blanks_in bytes) bytes =
         sym (drop-drop blanks place text) ∙ ap (λ (n : ℕ). drop n bytes) count in
-        let none = before-some text place h (λ e. some (ap legal_length behind ∙ begins_behind bytes e)) in
+        let none = before_some text place h (λ e. some (ap legal_length behind ∙ begins_behind bytes e)) in
         omega arith
 
     module _ {blanks : ℕ} (count : blanks ≡ blanks_in (drop place text)) where
@@ -147,7 +147,7 @@ module _ (text : List ℕ) (from : ℕ) where
 
       -- so skipping goes on behind the byte that stands there
       pub skip-past : place + blanks < length text → legal_length (drop (place + blanks) text) ≡ 0 → Skipping text from (place + blanks + 1)
-      skip-past h none = omega (arith, skip-blanks none, before-none text (place + blanks) h none)
+      skip-past h none = omega (arith, skip-blanks none, before_none text (place + blanks) h none)
 
       -- or ends where blanks stand up to the end
       pub skip-blank-end : length text ≤ place + blanks → place + blanks ≡ number_place text from
@@ -167,9 +167,9 @@ module _ (text : List ℕ) (from : ℕ) where
 
 module _ (text : List ℕ) (place : ℕ) where
   -- the end
-  pub stop-end : length text ≤ place → gives.End ≡ stop_before (drop place text)
+  pub stop_end : length text ≤ place → gives.End ≡ stop_before (drop place text)
   unfolding stop_before
-  stop-end h = rw (eq-eqb (length (drop place text)) 0 (omega (arith, length-drop place text)))
+  stop_end h = rw (eq-eqb (length (drop place text)) 0 (omega (arith, length-drop place text)))
 
   module _ (inside : place < length text) where
     -- no text number begins here
@@ -210,15 +210,15 @@ behind_stopped ns answer place = rw (append-nil ns)
 
 module _ (index place : ℕ) (bytes : List ℕ) where
   -- no text number begins here
-  pub numbers-stop : (left : ℕ) → legal_length bytes ≡ 0 → numbers_in left index place bytes ≡ stopped (stop_before bytes) place
+  pub numbers_stop : (left : ℕ) → legal_length bytes ≡ 0 → numbers_in left index place bytes ≡ stopped (stop_before bytes) place
   unfolding numbers_in
-  numbers-stop zero none = refl
-  numbers-stop (suc left) none = rw (eq-eqb (legal_length bytes) 0 none)
+  numbers_stop zero none = refl
+  numbers_stop (suc left) none = rw (eq-eqb (legal_length bytes) 0 none)
 
   -- there is no room
-  pub numbers-full : numbers_in 0 index place bytes ≡ stopped (stop_before bytes) place
+  pub numbers_full : numbers_in 0 index place bytes ≡ stopped (stop_before bytes) place
   unfolding numbers_in
-  numbers-full = refl
+  numbers_full = refl
 
   module _ (left : ℕ) (some : legal_length bytes ≡ 0 → ⊥) where
     -- a number before those behind it
@@ -245,9 +245,9 @@ pub record Collecting (text : List ℕ) (from : ℕ) (values : List Number) (cou
 
 module _ (text : List ℕ) (from : ℕ) where
   -- the start
-  pub collecting-starts : Collecting text from (filled max_columns zero_number []) 0 from
+  pub collecting_starts : Collecting text from (filled max_columns zero_number []) 0 from
   unfolding walking behind
-  collecting-starts = record { front = []; left = max_columns; room = refl; many = refl; held = refl; whole = refl }
+  collecting_starts = record { front = []; left = max_columns; room = refl; many = refl; held = refl; whole = refl }
 
   module _ {values : List Number} {count place : ℕ} (r : Collecting text from values count place) where
     -- what is answered where no number more is read
@@ -264,7 +264,7 @@ module _ (text : List ℕ) (from : ℕ) where
         → ◌≡◌ {A = Walked} (record { answer = answer; numbers = record { values = values; count = count }; place = place })
         (walked_of (walking text from))
     collecting-stops {answer} none e =
-        answered answer (numbers-stop count place (drop place text) r.left none ∙ ap (λ (a : WalkAnswer). stopped a place) (sym e))
+        answered answer (numbers_stop count place (drop place text) r.left none ∙ ap (λ (a : WalkAnswer). stopped a place) (sym e))
 
     -- the array is full
     pub collecting-ends : {answer : WalkAnswer} → max_columns ≤ count → answer ≡ stop_before (drop place text)
@@ -274,7 +274,7 @@ module _ (text : List ℕ) (from : ℕ) where
         let none : r.left ≡ 0 = omega (arith, r.room) in
         answered answer
         (ap (λ (n : ℕ). numbers_in n count place (drop place text)) none
-        ∙ numbers-full count place (drop place text)
+        ∙ numbers_full count place (drop place text)
         ∙ ap (λ (a : WalkAnswer). stopped a place) (sym e))
 
     module _ (more : count < max_columns) (some : legal_length (drop place text) ≡ 0 → ⊥) where
@@ -312,7 +312,7 @@ module _ (text : List ℕ) (from : ℕ) where
             many = length-append r.front (n ∷ []) ∙ omega (arith, r.many);
             held =
                 (λ i. set (r.held i) (sym r.many i) n)
-                ∙ filled-set zero_number max_columns r.front n (omega (arith, r.many));
+                ∙ filled_set zero_number max_columns r.front n (omega (arith, r.many));
             whole =
                 r.whole
                 ∙ ap (λ (m : ℕ). behind r.front (numbers_in m count place (drop place text))) one_left

@@ -15,18 +15,18 @@ use Rattle.decimal.specs.declared.number.Number.{Number}
 use Rattle.decimal.specs.Answer.{Answer, done, ◌then◌, pick}
 use Rattle.decimal.specs.Image.{sign_bytes, times, image_bytes, read_image}
 use Rattle.decimal.specs.Truncation.{Truncated, truncation}
-use Rattle.decimal.proofs.TruncationLaws.{truncation-fit}
+use Rattle.decimal.proofs.TruncationLaws.{truncation_fit}
 use Rattle.codec.specs.Lists.{max_columns}
 use Rattle.codec.specs.Alpha.{blank_byte, alpha_text, alpha_under, alpha_of, alpha_texts, parted}
 use Rattle.codec.specs.Text.{TextParts, Legal, HasForm, fraction_digits, all_digits_of, text_bytes, text_value, blanks_in, sign_in, digits_in, point_in, power_in, numeral_in, parts_in, reading_in, legal_length, read_texts}
 use Rattle.codec.specs.Walking.{bytes_before, number_place, FirstPlace, stop_before, stopped, numbers_in, walking, line_end, LineBack}
 use Rattle.decimal.proofs.AnswerLaws.{then_done}
-use Rattle.codec.proofs.TextLaws.{text_length_lem, text_long, legal-some, reading-number}
+use Rattle.codec.proofs.TextLaws.{text_length_lem, text_long, legal_some, reading_number}
 use Rattle.codec.proofs.PartLaws.{stops_byte, sign_no_blank}
 use Rattle.codec.proofs.FormLaws.{Ends, ends_blanks, ends_last, text_append, starts_numeral, parts_before, converts_form}
 use Rattle.codec.proofs.AlphaForm.{alpha_parts, alpha_form, alpha_reads_back}
 use Rattle.codec.proofs.LongestTheorem.{empty_length}
-use Rattle.codec.proofs.WalkLaws.{stop-end, stop-none, behind, numbers-stop, numbers-number}
+use Rattle.codec.proofs.WalkLaws.{stop_end, stop-none, behind, numbers_stop, numbers-number}
 
 -- One text before bytes that end it.
 
@@ -34,13 +34,13 @@ use Rattle.codec.proofs.WalkLaws.{stop-end, stop-none, behind, numbers-stop, num
 length_before : (t : TextParts) → Legal t.numeral → (r : List ℕ) → Ends t.behind r → legal_length (text_bytes t ++ r) ≡ length (text_bytes t)
 length_before t legal r ends =
     let parts = parts_before t legal r ends in
-    legal-some (text_bytes t ++ r) (λ none. omega (arith, ap (λ (u : TextParts). length (all_digits_of u.numeral)) parts, legal.some))
+    legal_some (text_bytes t ++ r) (λ none. omega (arith, ap (λ (u : TextParts). length (all_digits_of u.numeral)) parts, legal.some))
     ∙ ap (λ (u : TextParts). length (text_bytes u)) parts
 
 -- its value is the next number
 value_before : (t : TextParts) → Legal t.numeral → (r : List ℕ) → Ends t.behind r → (reading_in (text_bytes t ++ r)).number ≡ text_value t
 value_before t legal r ends =
-    reading-number (text_bytes t ++ r) (λ none. omega (arith, length_before t legal r ends, text_long t, legal.some))
+    reading_number (text_bytes t ++ r) (λ none. omega (arith, length_before t legal r ends, text_long t, legal.some))
     ∙ ap text_value (parts_before t legal r ends)
 
 -- so it is read, and then what is behind it
@@ -127,18 +127,18 @@ record LineEnd (z : List ℕ) : Type 0 where
 
 module _ (z : List ℕ) (end : LineEnd z) where
   -- a text and those behind it are read up to the line's end
-  line-walks : (t : TextParts) → Legal t.numeral → t.behind ≡ 0 → {n : Number} → text_value t ≡ done n
+  line_walks : (t : TextParts) → Legal t.numeral → t.behind ≡ 0 → {n : Number} → text_value t ≡ done n
       → {texts : List (List ℕ)} {ns : List Number} → AllRead texts ns → (left : ℕ) → length texts ≤ left → (index place : ℕ)
       → numbers_in (suc left) index place (text_bytes t ++ (blanked texts ++ z))
       ≡ record { answer = stop_before z; numbers = n ∷ ns; place = place + (length (text_bytes t) + length (blanked texts)) }
   unfolding blanked behind stopped times
-  line-walks t legal last {n} value none left few index place =
+  line_walks t legal last {n} value none left few index place =
       let size : place + length (text_bytes t) ≡ place + (length (text_bytes t) + 0) = omega arith in
       text_walks t legal value z (subst (λ (k : ℕ). Ends k z) (sym last) end.ends) left index place
-      ∙ ap (behind (n ∷ [])) (numbers-stop (suc index) (place + length (text_bytes t)) z left end.no_number)
+      ∙ ap (behind (n ∷ [])) (numbers_stop (suc index) (place + length (text_bytes t)) z left end.no_number)
       ∙ (λ i. record { answer = stop_before z; numbers = n ∷ []; place = size i })
-  line-walks t legal last {n} value (more u form behind-u value-u all) zero few index place = absurd (omega arith)
-  line-walks t legal last {n} value (more {text} {texts} {n = m} {ns} u form behind-u value-u all) (suc left) few index place =
+  line_walks t legal last {n} value (more u form behind-u value-u all) zero few index place = absurd (omega arith)
+  line_walks t legal last {n} value (more {text} {texts} {n = m} {ns} u form behind-u value-u all) (suc left) few index place =
       let k = u.before in
       let rest = blanked texts ++ z in
       let next = text_bytes (bare u) ++ rest in
@@ -163,26 +163,26 @@ module _ (z : List ℕ) (end : LineEnd z) where
       ∙ text_walks long legal (trailed_value t (suc k) ∙ value) next
       (ends_blanks k next (bare_blanks u form.legal rest)) (suc left) index place
       ∙ ap (behind (n ∷ []))
-      (line-walks (bare u) form.legal behind-u (bare_value u ∙ value-u) all left (omega arith) (suc index)
+      (line_walks (bare u) form.legal behind-u (bare_value u ∙ value-u) all left (omega arith) (suc index)
       (place + length (text_bytes long)))
       ∙ (λ i. record { answer = stop_before z; numbers = n ∷ (m ∷ ns); place = size i })
 
   -- so are texts parted by one blank each
-  parted-walks : {texts : List (List ℕ)} {ns : List Number} → AllRead texts ns → length texts ≤ max_columns → (place : ℕ)
+  parted_walks : {texts : List (List ℕ)} {ns : List Number} → AllRead texts ns → length texts ≤ max_columns → (place : ℕ)
       → numbers_in max_columns 0 place (parted texts ++ z) ≡ record
       { answer = stop_before z; numbers = ns; place = place + length (parted texts) }
   unfolding parted stopped
-  parted-walks none few place =
+  parted_walks none few place =
       let size : place ≡ place + 0 = omega arith in
-      numbers-stop 0 place z max_columns end.no_number ∙ (λ i. record { answer = stop_before z; numbers = []; place = size i })
-  parted-walks (more {text} {texts} {n} {ns} t form last value all) few place =
+      numbers_stop 0 place z max_columns end.no_number ∙ (λ i. record { answer = stop_before z; numbers = []; place = size i })
+  parted_walks (more {text} {texts} {n} {ns} t form last value all) few place =
       let first = parted_blanked text texts in
       let size : place + (length (text_bytes t) + length (blanked texts)) ≡ place + length (parted (text ∷ texts)) =
       omega (arith, ap length form.written, length-append text (blanked texts), ap length first) in
       ap (λ (l : List ℕ). numbers_in max_columns 0 place (l ++ z)) first
       ∙ ap (numbers_in max_columns 0 place)
       (append_assoc text (blanked texts) z ∙ ap (λ (l : List ℕ). l ++ (blanked texts ++ z)) form.written)
-      ∙ line-walks t form.legal last value all (max_columns - 1) (omega arith) 0 place
+      ∙ line_walks t form.legal last value all (max_columns - 1) (omega arith) 0 place
       ∙ (λ i. record { answer = stop_before z; numbers = n ∷ ns; place = size i })
 
 -- the end of the bytes ends a line
@@ -215,7 +215,7 @@ one_read image n {text} h =
     let c = then_done (truncation 0 b.value n) (λ (t : Truncated). done (alpha_text b.value t)) b.second in
     let told : ◌≡◌ {A = Answer (List ℕ)} (done (alpha_text b.value c.value)) (done text) = c.second in
     let same : alpha_text b.value c.value ≡ text = cc in
-    let fit = truncation-fit 0 b.value n c.first in
+    let fit = truncation_fit 0 b.value n c.first in
     let form = alpha_form b.value c.value fit.nonempty fit.size in
     let back = alpha_reads_back b.value n c.first in
     subst OneRead same
@@ -259,12 +259,12 @@ line_back ims ns {texts} h few =
       of_texts = converted all.1;
       alone =
           ap (numbers_in max_columns 0 0) (sym (append-nil (parted texts)))
-          ∙ parted-walks [] end_ends all.1 few 0
-          ∙ (λ i. record { answer = sym (stop-end [] 0 (omega arith)) i; numbers = all.0; place = size i });
+          ∙ parted_walks [] end_ends all.1 few 0
+          ∙ (λ i. record { answer = sym (stop_end [] 0 (omega arith)) i; numbers = all.0; place = size i });
       within =
           λ text from others e.
           ap (numbers_in max_columns 0 from) e
-          ∙ parted-walks (line_end ∷ others) (byte_ends others) all.1 few from
+          ∙ parted_walks (line_end ∷ others) (byte_ends others) all.1 few from
           ∙ (λ i. record {
             answer = sym (stop-none (line_end ∷ others) 0 (omega arith) (byte_ends others).no_number) i;
             numbers = all.0;

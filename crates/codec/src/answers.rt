@@ -16,7 +16,7 @@ pub const WRONG_COUNT: u8 = 10;
 pub const WRONG_LENGTH: u8 = 11;
 
 // How many bytes were written at the buffer's start, or why none.
-#[derive(Drop)]
+#[derive(Clone, Copy)]
 pub enum WriteAnswer {
     Written(usize),
     Refused(Refusal),

@@ -20,7 +20,7 @@ const NO_IMAGE: Image = Image {
 
 // A contents: its images, its own length in bytes, and the length of a body under it.
 // Where the answer is a refusal there are no images and the lengths are 0.
-#[derive(Drop)]
+#[derive(Clone, Copy)]
 pub struct Contents {
     pub answer: CheckAnswer,
     pub images: Images,
@@ -29,7 +29,7 @@ pub struct Contents {
 }
 
 // A column of a contents: its image and the place behind it, or why there is none.
-#[derive(Drop)]
+#[derive(Clone, Copy)]
 pub(crate) enum ColumnAnswer {
     Column(Image, usize),
     Refused(Refusal),

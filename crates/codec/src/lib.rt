@@ -1,4 +1,6 @@
 // Layer 2: contents, packed bodies and text (document 01: Packed bodies, Alpha text, the table of contents of Record file).
+#![tactic(auto)]
+
 mod alpha;
 mod answers;
 mod columns;

@@ -5,14 +5,14 @@ use decimal::{Image, Number};
 pub const COLUMNS: usize = 16;
 
 // A list of images: the first count of the values. A count above COLUMNS is a list that no contents has.
-#[derive(Drop)]
+#[derive(Clone, Copy)]
 pub struct Images {
     pub values: [Image; COLUMNS],
     pub count: usize,
 }
 
 // A list of numbers: the first count of the values. A count above COLUMNS is a list longer than any contents.
-#[derive(Drop)]
+#[derive(Clone, Copy)]
 pub struct Numbers {
     pub values: [Number; COLUMNS],
     pub count: usize,

@@ -14,14 +14,14 @@ use crate::packing::pack_under;
 use decimal::{CheckAnswer, Image, Number, Refusal, Remainder, RemainderAnswer, remainder_of};
 
 // A list of remainders: the first count of the values, one for each column. Every value past the count is the remainder of zero.
-#[derive(Drop)]
+#[derive(Clone, Copy)]
 pub struct Remainders {
     pub values: [Remainder; COLUMNS],
     pub count: usize,
 }
 
 // What packing wrote, and what truncation cut off the numbers that it packed. Where the answer is a refusal there is no remainder.
-#[derive(Drop)]
+#[derive(Clone, Copy)]
 pub struct Packed {
     pub answer: WriteAnswer,
     pub remainders: Remainders,

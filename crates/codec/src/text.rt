@@ -31,14 +31,14 @@ pub const NOT_TEXT: u8 = 8;
 const EXPONENT_DIGITS: usize = 2;
 
 // The longest beginning of a text that is a text number: its length, and its number or 5; where there is none, length 0 and 8.
-#[derive(Drop)]
+#[derive(Clone, Copy)]
 pub struct Reading {
     pub used: usize,
     pub number: NumberAnswer,
 }
 
 // The number that a text begins with and the bytes used, or the refusal.
-#[derive(Drop)]
+#[derive(Clone, Copy)]
 pub enum TextAnswer {
     Number(Number, usize),
     Refused(Refusal),
@@ -57,14 +57,14 @@ pub(crate) const NO_READING: Reading = Reading {
 };
 
 // Digits that were read, as a whole number, and how many they are.
-#[derive(Drop)]
+#[derive(Clone, Copy)]
 struct DigitRun {
     value: u64,
     count: usize,
 }
 
 // A point and digits behind it, or nothing: the whole number that all digits now make, the digits behind the point, the bytes used.
-#[derive(Drop)]
+#[derive(Clone, Copy)]
 struct Fraction {
     value: u64,
     count: usize,
@@ -72,7 +72,7 @@ struct Fraction {
 }
 
 // An exponent plus EXPONENT_LIMIT, and the bytes used; 0 bytes are no exponent.
-#[derive(Drop)]
+#[derive(Clone, Copy)]
 struct Power {
     up: usize,
     used: usize,
@@ -80,7 +80,7 @@ struct Power {
 
 // Digits with at most one point and an optional exponent: how many digits, their whole number, how many stand behind the point, the
 // exponent plus EXPONENT_LIMIT, the bytes used.
-#[derive(Drop)]
+#[derive(Clone, Copy)]
 struct Numeral {
     count: usize,
     value: u64,

@@ -22,14 +22,14 @@ use decimal::{CheckAnswer, EXPONENT_LIMIT, Image, Number, NumberAnswer, Refusal,
 pub const BAD_HALF: u8 = 7;
 
 // The numbers of a body. Where the answer is a refusal the list is empty.
-#[derive(Drop)]
+#[derive(Clone, Copy)]
 pub struct Unpacked {
     pub answer: CheckAnswer,
     pub numbers: Numbers,
 }
 
 // All halves of a column behind its sign half as one whole number, or Bad where one is above 9.
-#[derive(Drop)]
+#[derive(Clone, Copy)]
 enum ColumnRun {
     Value(u64),
     Bad,

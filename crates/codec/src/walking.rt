@@ -8,14 +8,14 @@ use crate::text::{NO_READING, Reading, blanks, read_text};
 use decimal::{Number, NumberAnswer, Refusal};
 
 // A walk over a lent text: the text, and the place where it goes on.
-#[derive(Drop)]
+#[derive(Clone, Copy)]
 pub struct Walker<'a> {
     text: &'a [u8],
     place: usize,
 }
 
 // Why reading stopped: at the end, where no text number begins, at a number that is refused, or before one number too many.
-#[derive(Drop)]
+#[derive(Clone, Copy)]
 pub enum WalkAnswer {
     End,
     NoNumber,
@@ -24,7 +24,7 @@ pub enum WalkAnswer {
 }
 
 // The text numbers that were read in order, and where and why reading stopped.
-#[derive(Drop)]
+#[derive(Clone, Copy)]
 pub struct Walked {
     pub answer: WalkAnswer,
     pub numbers: Numbers,

@@ -1,12 +1,14 @@
 // Reading standard input and writing standard output, where a failure is not taken for the end of the input or for success: programs have
 // no exit status, so a line on standard error tells it.
+#![tactic(auto)]
+
 ghost use Rattle.std.specs.Prelude.{◌≡◌, true, length};
 ghost use Rattle.console.specs.Within.{Within};
 
 use libc::{STDERR_FILENO, STDIN_FILENO, STDOUT_FILENO};
 
 // What reading gave: so many bytes at the start of a buffer, or that a read failed.
-#[derive(Drop)]
+#[derive(Clone, Copy)]
 pub enum Input {
     Bytes(usize),
     Failed,

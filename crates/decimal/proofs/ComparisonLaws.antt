@@ -10,7 +10,7 @@ use Rattle.decimal.specs.Number.{normal, magnitude}
 use Rattle.decimal.specs.Comparison.{whole_order, signed_order, value_order, comparison}
 use Rattle.decimal.proofs.PowerLaws.{pow10_pos}
 use Rattle.decimal.proofs.DigitLaws.{le_or_lt}
-use Rattle.decimal.proofs.NumberLaws.{InRange, normal_range, normal_is_zero, check-normal, check-abnormal}
+use Rattle.decimal.proofs.NumberLaws.{InRange, normal_range, normal_is_zero, check_normal, check_abnormal}
 use Rattle.decimal.proofs.MagnitudeLaws.{exponent_decides, zero_magnitude, range_positive}
 
 -- Whole numbers.
@@ -20,17 +20,17 @@ pub three_ways : (a b : ℕ) → (a < b) ⊎ ((a ≡ b) ⊎ (b < a))
 three_ways a b = ⊎_elim (λ h. ⊎_elim (λ g. inr (inl (omega arith))) inl (le_or_lt b a)) (λ h. inr (inr h)) (le_or_lt a b)
 
 module _ (a b : ℕ) where
-  pub whole-less : a < b → whole_order a b ≡ Less
+  pub whole_less : a < b → whole_order a b ≡ Less
   unfolding whole_order
-  whole-less h = rw (lt-ltb a b h)
+  whole_less h = rw (lt-ltb a b h)
 
-  pub whole-greater : b < a → whole_order a b ≡ Greater
+  pub whole_greater : b < a → whole_order a b ≡ Greater
   unfolding whole_order
-  whole-greater h = let g : b ≤ a = omega arith in rw (le-ltb a b g, lt-ltb b a h)
+  whole_greater h = let g : b ≤ a = omega arith in rw (le-ltb a b g, lt-ltb b a h)
 
-  pub whole-equal : a ≡ b → whole_order a b ≡ Equal
+  pub whole_equal : a ≡ b → whole_order a b ≡ Equal
   unfolding whole_order
-  whole-equal h =
+  whole_equal h =
       let g : b ≤ a = omega arith in
       let l : a ≤ b = omega arith in
       rw (le-ltb a b g, le-ltb b a l)
@@ -39,28 +39,28 @@ module _ (a b : ℕ) where
 pub whole_scaled : (a b k : ℕ) → 0 < k → whole_order (a * k) (b * k) ≡ whole_order a b
 whole_scaled a b k h =
     ⊎_elim
-    (λ l. whole-less (a * k) (b * k) (mul-lt-mul_of_pos_right l h) ∙ sym (whole-less a b l))
+    (λ l. whole_less (a * k) (b * k) (mul-lt-mul_of_pos_right l h) ∙ sym (whole_less a b l))
     (⊎_elim
-    (λ e. whole-equal (a * k) (b * k) (ap (λ (n : ℕ). n * k) e) ∙ sym (whole-equal a b e))
-    (λ g. whole-greater (a * k) (b * k) (mul-lt-mul_of_pos_right g h) ∙ sym (whole-greater a b g)))
+    (λ e. whole_equal (a * k) (b * k) (ap (λ (n : ℕ). n * k) e) ∙ sym (whole_equal a b e))
+    (λ g. whole_greater (a * k) (b * k) (mul-lt-mul_of_pos_right g h) ∙ sym (whole_greater a b g)))
     (three_ways a b)
 
 -- Numbers.
 
 module _ (a b : Number) where
   -- the signs decide where they differ
-  pub minus-first : a.negative ≡ true → b.negative ≡ false → value_order a b ≡ Less
+  pub minus_first : a.negative ≡ true → b.negative ≡ false → value_order a b ≡ Less
   unfolding value_order signed_order
-  minus-first h g = rw (h, g)
+  minus_first h g = rw (h, g)
 
-  pub minus-second : a.negative ≡ false → b.negative ≡ true → value_order a b ≡ Greater
+  pub minus_second : a.negative ≡ false → b.negative ≡ true → value_order a b ≡ Greater
   unfolding value_order signed_order
-  minus-second h g = rw (h, g)
+  minus_second h g = rw (h, g)
 
   -- else the magnitudes, of two minus numbers the other way round
-  pub minus-both : a.negative ≡ true → b.negative ≡ true → value_order a b ≡ whole_order (magnitude b) (magnitude a)
+  pub minus_both : a.negative ≡ true → b.negative ≡ true → value_order a b ≡ whole_order (magnitude b) (magnitude a)
   unfolding value_order signed_order
-  minus-both h g = rw (h, g)
+  minus_both h g = rw (h, g)
 
   pub minus_none : a.negative ≡ false → b.negative ≡ false → value_order a b ≡ whole_order (magnitude a) (magnitude b)
   unfolding value_order signed_order
@@ -69,16 +69,16 @@ module _ (a b : Number) where
   -- two numbers in normal form have an order
   pub compared : normal a ≡ true → normal b ≡ true → comparison a b ≡ done (value_order a b)
   unfolding comparison ◌then◌
-  compared h g = rw (check-normal a 0 h, check-normal b 1 g)
+  compared h g = rw (check_normal a 0 h, check_normal b 1 g)
 
   -- any others are refused
-  pub first-abnormal : normal a ≡ false → comparison a b ≡ refused 3 0
+  pub first_abnormal : normal a ≡ false → comparison a b ≡ refused 3 0
   unfolding comparison ◌then◌
-  first-abnormal h = rw (check-abnormal a 0 h)
+  first_abnormal h = rw (check_abnormal a 0 h)
 
-  pub second-abnormal : normal a ≡ true → normal b ≡ false → comparison a b ≡ refused 3 1
+  pub second_abnormal : normal a ≡ true → normal b ≡ false → comparison a b ≡ refused 3 1
   unfolding comparison ◌then◌
-  second-abnormal h g = rw (check-normal a 0 h, check-abnormal b 1 g)
+  second_abnormal h g = rw (check_normal a 0 h, check_abnormal b 1 g)
 
 -- what has an order is in normal form
 pub compared_back : (a b : Number) {o : Order} → comparison a b ≡ done o → (normal a ≡ true) × (normal b ≡ true) × (value_order a b ≡ o)
@@ -86,11 +86,11 @@ compared_back a b {o} e = first (normal a) refl
   where
     second : normal a ≡ true → (t : Bool) → normal b ≡ t → (normal a ≡ true) × (normal b ≡ true) × (value_order a b ≡ o)
     second h true g = let c = compared a b h g in (h, g, (cc))
-    second h false g = let c = second-abnormal a b h g in ((cc), (cc), (cc))
+    second h false g = let c = second_abnormal a b h g in ((cc), (cc), (cc))
 
     first : (s : Bool) → normal a ≡ s → (normal a ≡ true) × (normal b ≡ true) × (value_order a b ≡ o)
     first true h = second h (normal b) refl
-    first false h = let c = first-abnormal a b h in ((cc), (cc), (cc))
+    first false h = let c = first_abnormal a b h in ((cc), (cc), (cc))
 
 -- the magnitude of a number whose mantissa is zero
 pub none_magnitude : (n : Number) → normal n ≡ true → n.mantissa ≡ 0 → magnitude n ≡ 0
@@ -102,40 +102,40 @@ some_magnitude n h z = range_positive n (normal_range n h z)
 
 module _ (a b : Number) (h : normal a ≡ true) (g : normal b ≡ true) where
   -- the order of zero and a number is that of zero and its mantissa
-  pub zero-magnitudes : a.mantissa ≡ 0 → whole_order (magnitude a) (magnitude b) ≡ whole_order 0 b.mantissa
-  zero-magnitudes z =
+  pub zero_magnitudes : a.mantissa ≡ 0 → whole_order (magnitude a) (magnitude b) ≡ whole_order 0 b.mantissa
+  zero_magnitudes z =
       ⊎_elim
       (λ l.
-      whole-less (magnitude a) (magnitude b) (omega (arith, none_magnitude a h z, some_magnitude b g (omega arith)))
-      ∙ sym (whole-less 0 b.mantissa l))
+      whole_less (magnitude a) (magnitude b) (omega (arith, none_magnitude a h z, some_magnitude b g (omega arith)))
+      ∙ sym (whole_less 0 b.mantissa l))
       (⊎_elim
       (λ e.
-      whole-equal (magnitude a) (magnitude b) (omega (arith, none_magnitude a h z, none_magnitude b g (omega arith)))
-      ∙ sym (whole-equal 0 b.mantissa e))
+      whole_equal (magnitude a) (magnitude b) (omega (arith, none_magnitude a h z, none_magnitude b g (omega arith)))
+      ∙ sym (whole_equal 0 b.mantissa e))
       (λ l. absurd (omega arith)))
       (three_ways 0 b.mantissa)
 
   -- a nonzero number and zero
-  pub some-and-zero : (a.mantissa ≡ 0 → ⊥) → b.mantissa ≡ 0 → whole_order (magnitude a) (magnitude b) ≡ Greater
-  some-and-zero s z = whole-greater (magnitude a) (magnitude b) (omega (arith, some_magnitude a h s, none_magnitude b g z))
+  pub some_and_zero : (a.mantissa ≡ 0 → ⊥) → b.mantissa ≡ 0 → whole_order (magnitude a) (magnitude b) ≡ Greater
+  some_and_zero s z = whole_greater (magnitude a) (magnitude b) (omega (arith, some_magnitude a h s, none_magnitude b g z))
 
   module _ (s : a.mantissa ≡ 0 → ⊥) (t : b.mantissa ≡ 0 → ⊥) where
     -- the larger exponent has the larger magnitude
     pub exponent-less : a.exponent < b.exponent → whole_order (magnitude a) (magnitude b) ≡ Less
     unfolding magnitude
     exponent-less l =
-        whole-less (magnitude a) (magnitude b)
+        whole_less (magnitude a) (magnitude b)
         (exponent_decides (precision - 1) a.mantissa a.exponent b.mantissa b.exponent (normal_range a h s).high (normal_range b g t).low l)
 
     pub exponent-greater : b.exponent < a.exponent → whole_order (magnitude a) (magnitude b) ≡ Greater
     unfolding magnitude
     exponent-greater l =
-        whole-greater (magnitude a) (magnitude b)
+        whole_greater (magnitude a) (magnitude b)
         (exponent_decides (precision - 1) b.mantissa b.exponent a.mantissa a.exponent (normal_range b g t).high (normal_range a h s).low l)
 
   -- of equal exponents the mantissas decide
-  pub exponent-equal : a.exponent ≡ b.exponent → whole_order (magnitude a) (magnitude b) ≡ whole_order a.mantissa b.mantissa
+  pub exponent_equal : a.exponent ≡ b.exponent → whole_order (magnitude a) (magnitude b) ≡ whole_order a.mantissa b.mantissa
   unfolding magnitude
-  exponent-equal e =
+  exponent_equal e =
       ap (λ (k : ℕ). whole_order (a.mantissa * 10 ^ k) (b.mantissa * 10 ^ b.exponent)) e
       ∙ whole_scaled a.mantissa b.mantissa (10 ^ b.exponent) (pow10_pos b.exponent)

@@ -9,33 +9,33 @@ use Rattle.decimal.specs.Answer.{Answer, done}
 use Rattle.decimal.specs.Number.{normal, magnitude}
 use Rattle.decimal.specs.Comparison.{whole_order, signed_order, value_order, comparison, opposite, is_at_most}
 use Rattle.decimal.proofs.MagnitudeLaws.{normal_unique}
-use Rattle.decimal.proofs.ComparisonLaws.{three_ways, whole-less, whole-greater, whole-equal, compared, compared_back}
+use Rattle.decimal.proofs.ComparisonLaws.{three_ways, whole_less, whole_greater, whole_equal, compared, compared_back}
 
 -- Whole numbers.
 
 whole_opposite : (a b : ℕ) → whole_order b a ≡ opposite (whole_order a b)
 whole_opposite a b =
     ⊎_elim
-    (λ l. whole-greater b a l ∙ sym (ap opposite (whole-less a b l)))
+    (λ l. whole_greater b a l ∙ sym (ap opposite (whole_less a b l)))
     (⊎_elim
-    (λ e. whole-equal b a (sym e) ∙ sym (ap opposite (whole-equal a b e)))
-    (λ g. whole-less b a g ∙ sym (ap opposite (whole-greater a b g))))
+    (λ e. whole_equal b a (sym e) ∙ sym (ap opposite (whole_equal a b e)))
+    (λ g. whole_less b a g ∙ sym (ap opposite (whole_greater a b g))))
     (three_ways a b)
 
 whole_same : (a b : ℕ) → whole_order a b ≡ Equal → a ≡ b
 whole_same a b h =
     ⊎_elim
-    (λ l. let e = whole-less a b l in cc)
-    (⊎_elim (λ e. e) (λ g. let e = whole-greater a b g in cc))
+    (λ l. let e = whole_less a b l in cc)
+    (⊎_elim (λ e. e) (λ g. let e = whole_greater a b g in cc))
     (three_ways a b)
 
 whole_at_most : (a b : ℕ) → is_at_most (whole_order a b) ≡ leb a b
 whole_at_most a b =
     ⊎_elim
-    (λ l. ap is_at_most (whole-less a b l) ∙ sym (le-leb a b (omega arith)))
+    (λ l. ap is_at_most (whole_less a b l) ∙ sym (le-leb a b (omega arith)))
     (⊎_elim
-    (λ e. ap is_at_most (whole-equal a b e) ∙ sym (le-leb a b (omega arith)))
-    (λ g. ap is_at_most (whole-greater a b g) ∙ sym (lt-leb a b g)))
+    (λ e. ap is_at_most (whole_equal a b e) ∙ sym (le-leb a b (omega arith)))
+    (λ g. ap is_at_most (whole_greater a b g) ∙ sym (lt-leb a b g)))
     (three_ways a b)
 
 whole_transitive : (a b c : ℕ) → is_at_most (whole_order a b) ≡ true → is_at_most (whole_order b c) ≡ true → is_at_most (whole_order a c) ≡ true
@@ -62,8 +62,8 @@ signed_same false false a b h = (refl, whole_same a b h)
 
 signed_itself : (s : Bool) (a : ℕ) → signed_order s s a a ≡ Equal
 unfolding signed_order
-signed_itself true a = whole-equal a a refl
-signed_itself false a = whole-equal a a refl
+signed_itself true a = whole_equal a a refl
+signed_itself false a = whole_equal a a refl
 
 signed_transitive :
     (s t u : Bool) (a b c : ℕ)

@@ -11,9 +11,9 @@ use Rattle.decimal.specs.Constructors.{IsParts, PartsExactly, IsScaled, ScaledOu
 use Rattle.decimal.proofs.AnswerLaws.{never, one_answer}
 use Rattle.decimal.proofs.PowerLaws.{pow10_pos, pow10_add, pow10_mono, times_power}
 use Rattle.decimal.proofs.DigitLaws.{le_or_lt, leading_low, leading_top}
-use Rattle.decimal.proofs.NumberLaws.{check-normal, check-abnormal, normal_top, number_path, scaled-too-long, scaled_zero, scaled-shifted, shifted-below, shifted-above, shifted-done}
-use Rattle.decimal.proofs.PartsLaws.{HeldAs, parts_held, parts_below, parts-above}
-use Rattle.decimal.proofs.MagnitudeLaws.{normal_unique, scaled-normal, scaled-magnitude, scaled_sign, scaled-refused-five}
+use Rattle.decimal.proofs.NumberLaws.{check_normal, check_abnormal, normal_top, number_path, scaled_too_long, scaled_zero, scaled_shifted, shifted-below, shifted-above, shifted-done}
+use Rattle.decimal.proofs.PartsLaws.{HeldAs, parts_held, parts_below, parts_above}
+use Rattle.decimal.proofs.MagnitudeLaws.{normal_unique, scaled-normal, scaled-magnitude, scaled_sign, scaled_refused_five}
 
 -- A sign, a mantissa and an exponent.
 
@@ -23,14 +23,14 @@ module _ (place : ℕ) (negative : Bool) (mantissa : ℕ) (e : ℤ) where
   parts = parts_number place negative mantissa e
 
   -- the number that is asked for is given
-  parts-given : {n : Number} → IsParts negative mantissa e n → parts ≡ done n
-  parts-given {n} s =
+  parts_given : {n : Number} → IsParts negative mantissa e n → parts ≡ done n
+  parts_given {n} s =
       let sum : e +ℤ pos exponent_limit ≡ pos n.exponent =
       ap (λ (z : ℤ). z +ℤ pos exponent_limit) (sym s.power) ∙ -ℤ-+ℤ_cancel (pos n.exponent) (pos exponent_limit)
       in
       parts_held place negative mantissa e (record { held = n.exponent; sum = sum; small = normal_top n s.form })
       ∙ ap (check_number place) (number_path (sym s.sign) (sym s.digits) refl)
-      ∙ check-normal n place s.form
+      ∙ check_normal n place s.form
 
   -- the answer, with what holds where it is given
   data PartsView : Type 0 where
@@ -47,21 +47,21 @@ module _ (place : ℕ) (negative : Bool) (mantissa : ℕ) (e : ℤ) where
           let n : Number = record { negative = negative; mantissa = mantissa; exponent = k } in
           let power : exponent_of n ≡ e = ap (λ (z : ℤ). z -ℤ pos exponent_limit) (sym sum) ∙ +ℤ-neg_ℤ_cancel e (pos exponent_limit) in
           let s : IsParts negative mantissa e n = record { form = h; sign = refl; digits = refl; power = power } in
-          PartsView.number n s (parts-given s)
-      held k sum false h = PartsView.none (ap (held_number place negative mantissa) sum ∙ check-abnormal _ place h)
+          PartsView.number n s (parts_given s)
+      held k sum false h = PartsView.none (ap (held_number place negative mantissa) sum ∙ check_abnormal _ place h)
 
       go : (z : ℤ) → e +ℤ pos exponent_limit ≡ z → PartsView
       go (pos k) sum = held k sum _ refl
       go (negsuc k) sum = PartsView.none (ap (held_number place negative mantissa) sum)
 
   -- each answer is given exactly where it is due
-  pub parts-exactly : PartsExactly place negative mantissa e
-  parts-exactly =
+  pub parts_exactly : PartsExactly place negative mantissa e
+  parts_exactly =
       record {
-        number = λ n. (is-parts parts_view, parts-given);
-        three = (λ r n s. never r (parts-given s), refuses parts_view);
+        number = λ n. (is-parts parts_view, parts_given);
+        three = (λ r n s. never r (parts_given s), refuses parts_view);
         one_of = one_of parts_view;
-        limits = λ r. (lt_z_no (not-held (parts_below place negative mantissa e) r), lt_z_no (not-held (parts-above place negative mantissa e) r));
+        limits = λ r. (lt_z_no (not-held (parts_below place negative mantissa e) r), lt_z_no (not-held (parts_above place negative mantissa e) r));
       }
     where
       is-parts : {n : Number} → PartsView → parts ≡ done n → IsParts negative mantissa e n
@@ -84,8 +84,8 @@ module _ (place : ℕ) (negative : Bool) (mantissa : ℕ) (e : ℤ) where
 
 module _ (p w z : ℕ) where
   -- two powers on the right in the other order
-  powers-swapped : (a : ℕ) → w * 10 ^ a * 10 ^ z ≡ w * 10 ^ z * 10 ^ a
-  powers-swapped a = mul_assoc w (10 ^ a) (10 ^ z) ∙ ap (λ (q : ℕ). w * q) (mul_comm (10 ^ a) (10 ^ z)) ∙ sym (mul_assoc w (10 ^ z) (10 ^ a))
+  powers_swapped : (a : ℕ) → w * 10 ^ a * 10 ^ z ≡ w * 10 ^ z * 10 ^ a
+  powers_swapped a = mul_assoc w (10 ^ a) (10 ^ z) ∙ ap (λ (q : ℕ). w * q) (mul_comm (10 ^ a) (10 ^ z)) ∙ sym (mul_assoc w (10 ^ z) (10 ^ a))
 
   -- a multiple is below a power where its digits end before the power's
   below_power : (a b : ℕ) → w * 10 ^ z < 10 ^ suc p → p + a < b + z → w * 10 ^ a < 10 ^ b
@@ -95,20 +95,20 @@ module _ (p w z : ℕ) where
       let most : 10 ^ b * 10 ^ z ≤ w * 10 ^ a * 10 ^ z = mul-le-mul_right (10 ^ z) le in
       let less : w * 10 ^ z * 10 ^ a < 10 ^ suc p * 10 ^ a = mul-lt-mul_of_pos_right high (pow10_pos a) in
       let between : 10 ^ (suc p + a) ≤ 10 ^ (b + z) = pow10_mono (omega arith) in
-      absurd (omega (arith, powers-swapped a, pow10_add (suc p) a, pow10_add b z)))
+      absurd (omega (arith, powers_swapped a, pow10_add (suc p) a, pow10_add b z)))
       (λ lt. lt)
       (le_or_lt (10 ^ b) (w * 10 ^ a))
 
   -- and not below it where they do not
-  from-power : (a b : ℕ) → 10 ^ p ≤ w * 10 ^ z → b + z ≤ p + a → 10 ^ b ≤ w * 10 ^ a
-  from-power a b low h =
+  from_power : (a b : ℕ) → 10 ^ p ≤ w * 10 ^ z → b + z ≤ p + a → 10 ^ b ≤ w * 10 ^ a
+  from_power a b low h =
       ⊎_elim
       (λ le. le)
       (λ lt.
       let most : 10 ^ p * 10 ^ a ≤ w * 10 ^ z * 10 ^ a = mul-le-mul_right (10 ^ a) low in
       let less : w * 10 ^ a * 10 ^ z < 10 ^ b * 10 ^ z = mul-lt-mul_of_pos_right lt (pow10_pos z) in
       let between : 10 ^ (b + z) ≤ 10 ^ (p + a) = pow10_mono h in
-      absurd (omega (arith, powers-swapped a, pow10_add p a, pow10_add b z)))
+      absurd (omega (arith, powers_swapped a, pow10_add p a, pow10_add b z)))
       (le_or_lt (10 ^ b) (w * 10 ^ a))
 
 -- no positive multiple of a power is below one
@@ -165,15 +165,15 @@ module _ (place : ℕ) (negative : Bool) (whole up down : ℕ) where
         → View
 
   -- zero is within the limits
-  zero-within : whole ≡ 0 → ScaledOutside whole up down → ⊥
-  zero-within e (too_small some h) = omega arith
-  zero-within e (too_large h) =
+  zero_within : whole ≡ 0 → ScaledOutside whole up down → ⊥
+  zero_within e (too_small some h) = omega arith
+  zero_within e (too_large h) =
       let none : whole * 10 ^ up ≡ 0 = ap (λ (q : ℕ). q * 10 ^ up) e ∙ zero-mul (10 ^ up) in
       omega (arith, pow10_pos (down + suc exponent_limit))
 
   -- the number given is the one asked for
-  given-scaled : {n : Number} → answer ≡ done n → IsScaled negative whole up down n
-  given-scaled {n} h =
+  given_scaled : {n : Number} → answer ≡ done n → IsScaled negative whole up down n
+  given_scaled {n} h =
       record {
         form = scaled-normal place negative whole up down h;
         sign = ⊎_elim plus asked (le_or_lt whole 0);
@@ -199,7 +199,7 @@ module _ (place : ℕ) (negative : Bool) (whole up down : ℕ) where
         View.outside fits
         (too_small positive
         (below_power (precision - 1) whole lead (up + exponent_limit) down (leading_top (precision - 1) whole positive fits) (omega arith)))
-        (scaled-shifted place negative whole up down positive fits ∙ shifted-below place negative whole up down lead h)
+        (scaled_shifted place negative whole up down positive fits ∙ shifted-below place negative whole up down lead h)
 
     module _ (room : down + lead ≤ start) where
       -- where they go on above 10^99
@@ -207,14 +207,14 @@ module _ (place : ℕ) (negative : Bool) (whole up down : ℕ) where
       above_view h =
           View.outside fits
           (too_large
-          (from-power (precision - 1) whole lead up (down + suc exponent_limit) (leading_low (precision - 1) whole positive fits) (omega arith)))
-          (scaled-shifted place negative whole up down positive fits ∙ shifted-above place negative whole up down lead room h)
+          (from_power (precision - 1) whole lead up (down + suc exponent_limit) (leading_low (precision - 1) whole positive fits) (omega arith)))
+          (scaled_shifted place negative whole up down positive fits ∙ shifted-above place negative whole up down lead room h)
 
       -- within the limits a magnitude is not outside
       limits-within : start - (down + lead) ≤ 2 * exponent_limit → ScaledOutside whole up down → ⊥
       limits-within top (too_small some h) =
           let least =
-          from-power (precision - 1) whole lead (up + exponent_limit) down (leading_low (precision - 1) whole positive fits) (omega arith)
+          from_power (precision - 1) whole lead (up + exponent_limit) down (leading_low (precision - 1) whole positive fits) (omega arith)
           in
           omega arith
       limits-within top (too_large h) =
@@ -226,8 +226,8 @@ module _ (place : ℕ) (negative : Bool) (whole up down : ℕ) where
       -- there the number is given
       within-view : start - (down + lead) ≤ 2 * exponent_limit → View
       within-view top =
-          let h = scaled-shifted place negative whole up down positive fits ∙ shifted-done place negative whole up down lead room top in
-          View.given fits (limits-within top) _ (given-scaled h) h
+          let h = scaled_shifted place negative whole up down positive fits ∙ shifted-done place negative whole up down lead room top in
+          View.given fits (limits-within top) _ (given_scaled h) h
 
     -- a whole number that is not zero
     some-view : View
@@ -241,7 +241,7 @@ module _ (place : ℕ) (negative : Bool) (whole up down : ℕ) where
   view : View
   view =
       ⊎_elim
-      (λ h. View.long h (scaled-too-long place negative whole up down h))
+      (λ h. View.long h (scaled_too_long place negative whole up down h))
       (λ fits. ⊎_elim (none-view fits) (λ some. some-view some fits) (le_or_lt whole 0))
       (le_or_lt (10 ^ precision) whole)
     where
@@ -249,17 +249,17 @@ module _ (place : ℕ) (negative : Bool) (whole up down : ℕ) where
       none-view fits le =
           let e : whole ≡ 0 = omega arith in
           let h = scaled_zero place negative whole up down e in
-          View.given fits (zero-within e) zero_number (given-scaled h) h
+          View.given fits (zero_within e) zero_number (given_scaled h) h
 
   -- refusals with 3 and 5 are not the same
-  three-or-five : {B : Type 0} → answer ≡ refused 3 place → answer ≡ refused 5 place → B
-  three-or-five a b = let z : ◌≡◌ {A = ℕ} 3 5 = cc in absurd (omega arith)
+  three_or_five : {B : Type 0} → answer ≡ refused 3 place → answer ≡ refused 5 place → B
+  three_or_five a b = let z : ◌≡◌ {A = ℕ} 3 5 = cc in absurd (omega arith)
 
   -- each answer is given exactly where it is due
-  pub scaled-exactly : ScaledExactly place negative whole up down
-  scaled-exactly =
+  pub scaled_exactly : ScaledExactly place negative whole up down
+  scaled_exactly =
       record {
-        three = (three view, scaled-too-long place negative whole up down);
+        three = (three view, scaled_too_long place negative whole up down);
         five = (five view, λ o. outside-five view o.0 o.1);
         number = λ n. (number view, λ s. scaled-number view s.0 s.1);
         one_of = one_of view;
@@ -267,11 +267,11 @@ module _ (place : ℕ) (negative : Bool) (whole up down : ℕ) where
     where
       three : View → answer ≡ refused 3 place → 10 ^ precision ≤ whole
       three (View.long h e) r = h
-      three (View.outside fits o e) r = three-or-five r e
+      three (View.outside fits o e) r = three_or_five r e
       three (View.given fits o n s e) r = never r e
 
       five : View → answer ≡ refused 5 place → (whole < 10 ^ precision) × ScaledOutside whole up down
-      five (View.long h e) r = three-or-five e r
+      five (View.long h e) r = three_or_five e r
       five (View.outside fits o e) r = (fits, o)
       five (View.given fits o n s e) r = never r e
 
@@ -283,11 +283,11 @@ module _ (place : ℕ) (negative : Bool) (whole up down : ℕ) where
       number : {n : Number} → View → answer ≡ done n → (whole < 10 ^ precision) × IsScaled negative whole up down n
       number (View.long h e) r = never e r
       number (View.outside fits o e) r = never e r
-      number (View.given fits o m s e) r = (fits, given-scaled r)
+      number (View.given fits o m s e) r = (fits, given_scaled r)
 
       scaled-number : {n : Number} → View → whole < 10 ^ precision → IsScaled negative whole up down n → answer ≡ done n
       scaled-number (View.long h e) fits s = absurd (omega arith)
-      scaled-number {n} (View.outside _ o e) fits s = absurd (scaled-refused-five place negative whole up down fits e n s.form s.size)
+      scaled-number {n} (View.outside _ o e) fits s = absurd (scaled_refused_five place negative whole up down fits e n s.form s.size)
       scaled-number (View.given _ o m t e) fits s = e ∙ ap done (scaled_unique t s)
 
       one_of :
@@ -301,22 +301,22 @@ module _ (place : ℕ) (negative : Bool) (whole up down : ℕ) where
 module _ (steps : ℕ) where
   -- the steps as a scaled number
   abbrev scaled : ScaledExactly 0 false steps 0 0
-  scaled = scaled-exactly 0 false steps 0 0
+  scaled = scaled_exactly 0 false steps 0 0
 
   -- no count of steps is outside the limits
-  steps-within : steps < 10 ^ precision → ScaledOutside steps 0 0 → ⊥
-  steps-within fits (too_small some h) = none_below_one steps exponent_limit some h
-  steps-within fits (too_large h) =
+  steps_within : steps < 10 ^ precision → ScaledOutside steps 0 0 → ⊥
+  steps_within fits (too_small some h) = none_below_one steps exponent_limit some h
+  steps_within fits (too_large h) =
       let most = pow10_mono {i = precision} {j = suc exponent_limit} (omega arith) in
       lt_irrefl steps (lt_of_lt_of_le fits (le_trans most (subst (λ (k : ℕ). 10 ^ suc exponent_limit ≤ k) (mul-one steps) h)))
 
   -- each answer is given exactly where it is due
-  pub steps-exactly : StepsExactly steps
-  steps-exactly =
+  pub steps_exactly : StepsExactly steps
+  steps_exactly =
       record {
         three = scaled.three;
         number = λ n. (λ r. let s = (scaled.number n).0 r in (s.0, steps_of s.1), λ s. (scaled.number n).1 (s.0, scaled-of s.1));
-        one_of = ⊎_elim (λ d. inl d) (λ r. inr (⊎_elim (λ t. t) (λ f. let o = scaled.five.0 f in absurd (steps-within o.0 o.1)) r)) scaled.one_of;
+        one_of = ⊎_elim (λ d. inl d) (λ r. inr (⊎_elim (λ t. t) (λ f. let o = scaled.five.0 f in absurd (steps_within o.0 o.1)) r)) scaled.one_of;
       }
     where
       steps_of : {n : Number} → IsScaled false steps 0 0 n → IsSteps steps n

@@ -236,25 +236,25 @@ first_sign (b ∷ bs) h = refl
 
 module _ {bytes : List ℕ} {scan : Scan} (s : Scanned bytes scan) where
   -- where the last state is an image's, the bytes are accepted
-  pub scan-accepted : {t : Bool} → is_image (state_of scan.state) ≡ t → is_image (run_state Start bytes) ≡ t
-  scan-accepted h = sym (ap is_image s.ended) ∙ h
+  pub scan_accepted : {t : Bool} → is_image (state_of scan.state) ≡ t → is_image (run_state Start bytes) ≡ t
+  scan_accepted h = sym (ap is_image s.ended) ∙ h
 
   -- and with more than precision # signs they are refused with 2
-  pub scan-many : (place : ℕ) → is_image (state_of scan.state) ≡ true → precision < scan.integer + scan.fraction
+  pub scan_many : (place : ℕ) → is_image (state_of scan.state) ≡ true → precision < scan.integer + scan.fraction
       → read_image place bytes ≡ refused 2 place
   unfolding scanned_image
-  scan-many place h many =
-      reads_too_many place (scanned_sound bytes (scan-accepted h)) (omega (arith, s.integers, s.fractions))
+  scan_many place h many =
+      reads_too_many place (scanned_sound bytes (scan_accepted h)) (omega (arith, s.integers, s.fractions))
 
   -- with no more they are the image of the first byte's sign, the counts and the kind
-  pub scan-image : (place : ℕ) {sign : Sign} {kind : Bool} → is_image (state_of scan.state) ≡ true
+  pub scan_image : (place : ℕ) {sign : Sign} {kind : Bool} → is_image (state_of scan.state) ≡ true
       → scan.integer + scan.fraction ≤ precision
       → sign ≡ sign_of (get_or bytes 0 0)
       → kind ≡ is_exponential (state_of scan.state)
       → read_image place bytes ≡ done (record { sign = sign; integer = scan.integer; fraction = scan.fraction; exponential = kind })
   unfolding scanned_image
-  scan-image place {sign} {kind} h few p q =
-      let accepted = scan-accepted h in
+  scan_image place {sign} {kind} h few p q =
+      let accepted = scan_accepted h in
       let same : scanned_image bytes ≡ record { sign = sign; integer = scan.integer; fraction = scan.fraction; exponential = kind } =
       λ k.
       record {

@@ -71,8 +71,8 @@ stopped_runs (b ∷ bs) = rw (stopped_stays b, stopped_runs bs)
 
 module _ (accepts : State → Bool) (stopped-not : accepts Stopped ≡ false) where
   -- where the machine stopped nothing is accepted
-  pub stopped-rejects : {A : Type 0} (bs : List ℕ) → accepts (run_state Stopped bs) ≡ true → A
-  stopped-rejects bs h = absurd (false≢true (sym (ap accepts (stopped_runs bs) ∙ stopped-not) ∙ h))
+  pub stopped_rejects : {A : Type 0} (bs : List ℕ) → accepts (run_state Stopped bs) ≡ true → A
+  stopped_rejects bs h = absurd (false≢true (sym (ap accepts (stopped_runs bs) ∙ stopped-not) ∙ h))
 
   module _ (four : (n : ℕ) → accepts (Up n) ≡ eqb n ups) where
     -- behind n of the 5E bytes stand the others
@@ -87,18 +87,18 @@ module _ (accepts : State → Bool) (stopped-not : accepts Stopped ≡ false) wh
         let l : n < ups = ltb-true n ups e in
         let m : suc (ups - (n + 1)) ≡ ups - n = omega arith in
         ap (λ (l : List ℕ). up_byte ∷ l) (ih (n + 1) h) ∙ ap (λ (k : ℕ). times k up_byte) m
-    up_step n bs ih false e h = stopped-rejects bs h
+    up_step n bs ih false e h = stopped_rejects bs h
 
     -- one byte behind 5E bytes
     up-byte : (n : ℕ) {b : ℕ} (bs : List ℕ) → ((m : ℕ) → UpTail m bs) → ByteView b → UpTail n (b ∷ bs)
     unfolding run_state next_state
-    up-byte n bs ih is_plus h = stopped-rejects bs h
-    up-byte n bs ih is_minus h = stopped-rejects bs h
-    up-byte n bs ih is_hash h = stopped-rejects bs h
-    up-byte n bs ih is_point h = stopped-rejects bs h
-    up-byte n bs ih is_comma h = stopped-rejects bs h
+    up-byte n bs ih is_plus h = stopped_rejects bs h
+    up-byte n bs ih is_minus h = stopped_rejects bs h
+    up-byte n bs ih is_hash h = stopped_rejects bs h
+    up-byte n bs ih is_point h = stopped_rejects bs h
+    up-byte n bs ih is_comma h = stopped_rejects bs h
     up-byte n bs ih is_up h = up_step n bs ih (ltb n ups) refl h
-    up-byte n bs ih (is_other e) h = stopped-rejects bs (subst (λ (s : State). accepts (run_state s bs) ≡ true) (e (Up n)) h)
+    up-byte n bs ih (is_other e) h = stopped_rejects bs (subst (λ (s : State). accepts (run_state s bs) ≡ true) (e (Up n)) h)
 
     -- all bytes behind 5E bytes
     pub ups-behind : (n : ℕ) (bs : List ℕ) → UpTail n bs
@@ -158,13 +158,13 @@ dead_none integer [] h = false≢true h
 dead_none point [] h = false≢true h
 dead_none fraction [] h = false≢true h
 dead_none stopped [] h = false≢true h
-dead_none d (b ∷ bs) h = dead_none (dead_step (view b) d) bs h
+dead_none {s = s} d (b ∷ bs) h = dead_none {s = next_state s b} (dead_step (view b) d) bs h
 
 -- What the live states accept: the tails of images.
 
 -- the machine stopped, so that there is no image
 halted : {A : Type 0} (bs : List ℕ) → is_image (run_state Stopped bs) ≡ true → A
-halted bs h = stopped-rejects is_image refl bs h
+halted bs h = stopped_rejects is_image refl bs h
 
 halted_by : {A : Type 0} {s : State} (bs : List ℕ) → s ≡ Stopped → is_image (run_state s bs) ≡ true → A
 halted_by bs e h = halted bs (subst (λ (s : State). is_image (run_state s bs) ≡ true) e h)

@@ -14,9 +14,9 @@ use Rattle.decimal.specs.Truncation.{is_signed, whole_of, exceeds, exponent_outs
 use Rattle.decimal.proofs.BoolLaws.{and_again, and_none, zero_or_not}
 use Rattle.decimal.proofs.PowerLaws.{times_power}
 use Rattle.decimal.proofs.DigitLaws.{le_or_lt, leading_unique}
-use Rattle.decimal.proofs.ScaleLaws.{scaled-vanishes, scaled-drops, cut_low, cut_high, cut_again}
-use Rattle.decimal.proofs.NumberLaws.{InRange, normal_range, normal_high, range_normal, zero_normal, scaled_zero, scaled-shifted, shifted-done, number_path}
-use Rattle.decimal.proofs.TruncationLaws.{truncation-fit, truncation-done, fit-truncation, fit-fixed, fit-exponential, exceeds-zero, outside-zero, stored-zero, stored-exponential, stored-fixed, kept-zero, kept-exponential, kept_fixed, same-outside, same-exceeds, same-stored, same_kept}
+use Rattle.decimal.proofs.ScaleLaws.{scaled_vanishes, scaled_drops, cut_low, cut_high, cut_again}
+use Rattle.decimal.proofs.NumberLaws.{InRange, normal_range, normal_high, range_normal, zero_normal, scaled_zero, scaled_shifted, shifted-done, number_path}
+use Rattle.decimal.proofs.TruncationLaws.{truncation_fit, truncation_done, fit_truncation, fit_fixed, fit_exponential, exceeds_zero, outside_zero, stored_zero, stored_exponential, stored_fixed, kept_zero, kept_exponential, kept_fixed, same_outside, same_exceeds, same_stored, same_kept}
 
 -- What an answer without its result tells.
 
@@ -33,7 +33,7 @@ unfolding checked_only
 checked_fits place im n h = go (truncation place im n) refl
   where
     go : (a : Answer Truncated) → truncation place im n ≡ a → Fit im n
-    go (done t) e = truncation-fit place im n e
+    go (done t) e = truncation_fit place im n e
     go (refused x y) e =
         let wrong : checked_only (truncation place im n) ≡ refused x y = ap checked_only e in
         let z : ◌≡◌ {A = ℕ} 0 1 = cc in
@@ -45,9 +45,9 @@ truncated_path p q r = λ i. record { negative = p i; whole = q i; x = r i }
 
 module _ (im : Image) (n : Number) where
   -- of a zero mantissa k is 0
-  pub whole-zero : n.mantissa ≡ 0 → whole_of im n ≡ 0
+  pub whole_zero : n.mantissa ≡ 0 → whole_of im n ≡ 0
   unfolding whole_of magnitude
-  whole-zero z = go im.exponential
+  whole_zero z = go im.exponential
     where
       go : (b : Bool)
           → pick b (n.mantissa / 10 ^ (precision - hashes im)) (n.mantissa * 10 ^ n.exponent * 10 ^ im.fraction / unit) ≡ 0
@@ -55,30 +55,30 @@ module _ (im : Image) (n : Number) where
       go false = rw (z, zero-mul (10 ^ n.exponent), zero-mul (10 ^ im.fraction)) (zero-div unit)
 
   -- exponential: k is the first n digits
-  whole-exponential : im.exponential ≡ true → whole_of im n ≡ n.mantissa / 10 ^ (precision - hashes im)
+  whole_exponential : im.exponential ≡ true → whole_of im n ≡ n.mantissa / 10 ^ (precision - hashes im)
   unfolding whole_of
-  whole-exponential kind = rw kind
+  whole_exponential kind = rw kind
 
   -- fixed point: k is the whole part of magnitude × 10^f
-  whole-fixed : im.exponential ≡ false → whole_of im n ≡ n.mantissa * 10 ^ n.exponent * 10 ^ im.fraction / unit
+  whole_fixed : im.exponential ≡ false → whole_of im n ≡ n.mantissa * 10 ^ n.exponent * 10 ^ im.fraction / unit
   unfolding whole_of magnitude
-  whole-fixed kind = rw kind
+  whole_fixed kind = rw kind
 
   module _ (fit : Fit im n) where
     -- no more digits are kept than the image has
     pub kept-size : kept_count im n ≤ hashes im
-    kept-size = ⊎_elim (λ z. omega (arith, kept-zero im n z)) (λ nz. go nz im.exponential refl) (zero_or_not n.mantissa)
+    kept-size = ⊎_elim (λ z. omega (arith, kept_zero im n z)) (λ nz. go nz im.exponential refl) (zero_or_not n.mantissa)
       where
         go : (n.mantissa ≡ 0 → ⊥) → (b : Bool) → im.exponential ≡ b → kept_count im n ≤ hashes im
-        go nz true kind = omega (arith, kept-exponential im n nz kind)
-        go nz false kind = omega (arith, kept_fixed im n nz kind, fit-fixed im n fit kind nz)
+        go nz true kind = omega (arith, kept_exponential im n nz kind)
+        go nz false kind = omega (arith, kept_fixed im n nz kind, fit_fixed im n fit kind nz)
 
     -- k is the mantissa without the digits that are not kept
     pub kept_whole : whole_of im n ≡ n.mantissa / 10 ^ (dropped_count im n)
     kept_whole = ⊎_elim none (λ nz. go nz im.exponential refl) (zero_or_not n.mantissa)
       where
         none : n.mantissa ≡ 0 → whole_of im n ≡ n.mantissa / 10 ^ (dropped_count im n)
-        none z = whole-zero z ∙ sym (ap (λ (m : ℕ). m / 10 ^ (dropped_count im n)) z ∙ zero-div _)
+        none z = whole_zero z ∙ sym (ap (λ (m : ℕ). m / 10 ^ (dropped_count im n)) z ∙ zero-div _)
 
         high : n.mantissa < 10 ^ precision
         high = normal_high n fit.number_checked
@@ -89,27 +89,27 @@ module _ (im : Image) (n : Number) where
             ⊎_elim
             (λ le.
             let all : kept_count im n ≡ 0 = omega arith in
-            scaled-vanishes (precision - 1) exponent_limit n.mantissa n.exponent im.fraction high le
+            scaled_vanishes (precision - 1) exponent_limit n.mantissa n.exponent im.fraction high le
             ∙ sym (ap (λ (k : ℕ). n.mantissa / 10 ^ (precision - k)) all ∙ div-eq_of_lt high))
             (λ lt.
-            scaled-drops (precision - 1) exponent_limit n.mantissa n.exponent im.fraction (dropped_count im n) (exponent_limit + (precision - 1))
+            scaled_drops (precision - 1) exponent_limit n.mantissa n.exponent im.fraction (dropped_count im n) (exponent_limit + (precision - 1))
             (omega (arith, kept-size, fit.size)))
             (le_or_lt (n.exponent + im.fraction + 1) exponent_limit)
 
         go : (n.mantissa ≡ 0 → ⊥) → (b : Bool) → im.exponential ≡ b → whole_of im n ≡ n.mantissa / 10 ^ (dropped_count im n)
         go nz true kind =
-            whole-exponential kind ∙ ap (λ (k : ℕ). n.mantissa / 10 ^ (precision - k)) (sym (kept-exponential im n nz kind))
-        go nz false kind = whole-fixed kind ∙ fixed nz kind
+            whole_exponential kind ∙ ap (λ (k : ℕ). n.mantissa / 10 ^ (precision - k)) (sym (kept_exponential im n nz kind))
+        go nz false kind = whole_fixed kind ∙ fixed nz kind
 
     -- some digit is kept of a number that is not truncated to zero
     kept-positive : 0 < kept_count im n → 10 ^ (precision - 1) ≤ n.mantissa / 10 ^ (dropped_count im n) * 10 ^ (dropped_count im n)
     kept-positive h =
-        let nonzero : n.mantissa ≡ 0 → ⊥ = λ z. omega (arith, kept-zero im n z) in
+        let nonzero : n.mantissa ≡ 0 → ⊥ = λ z. omega (arith, kept_zero im n z) in
         cut_low (precision - 1) n.mantissa (dropped_count im n) (normal_range n fit.number_checked nonzero).low (omega arith)
 
     -- k is 0 exactly where no digit is kept
-    pub kept-none : eqb (whole_of im n) 0 ≡ eqb (kept_count im n) 0
-    kept-none = ⊎_elim none some (zero_or_not (kept_count im n))
+    pub kept_none : eqb (whole_of im n) 0 ≡ eqb (kept_count im n) 0
+    kept_none = ⊎_elim none some (zero_or_not (kept_count im n))
       where
         none : kept_count im n ≡ 0 → eqb (whole_of im n) 0 ≡ eqb (kept_count im n) 0
         none e =
@@ -128,16 +128,16 @@ module _ (im : Image) (n : Number) where
     -- the sign of the truncation
     pub kept-sign : (truncated_to im n).negative ≡ (kept_number im n).negative
     unfolding truncated_to kept_number
-    kept-sign = ap (λ (b : Bool). is_signed im.sign && (n.negative && not b)) kept-none
+    kept-sign = ap (λ (b : Bool). is_signed im.sign && (n.negative && not b)) kept_none
 
     -- with no digit kept the truncation is zero
     pub number-none : (place : ℕ) → kept_count im n ≡ 0 → number_of place im (truncated_to im n) ≡ done zero_number
     unfolding number_of truncated_to
-    number-none place e = scaled_zero _ _ _ _ _ (eqb-true (whole_of im n) 0 (kept-none ∙ eq-eqb (kept_count im n) 0 e))
+    number-none place e = scaled_zero _ _ _ _ _ (eqb-true (whole_of im n) 0 (kept_none ∙ eq-eqb (kept_count im n) 0 e))
 
     module _ (some : 0 < kept_count im n) where
       nonzero : n.mantissa ≡ 0 → ⊥
-      nonzero z = omega (arith, kept-zero im n z)
+      nonzero z = omega (arith, kept_zero im n z)
 
       range : InRange n
       range = normal_range n fit.number_checked nonzero
@@ -159,8 +159,8 @@ module _ (im : Image) (n : Number) where
               → im.exponential ≡ b
               → exponent_limit + (precision - 1) + stored_exponent im n ≡ n.exponent + (exponent_limit + im.fraction + dropped_count im n)
           go true kind =
-              omega (arith, kept-exponential im n nonzero kind, stored-exponential im n nonzero kind, fit-exponential im n fit kind nonzero, fit.size)
-          go false kind = omega (arith, kept_fixed im n nonzero kind, stored-fixed im n nonzero kind, kept-size, fit.size)
+              omega (arith, kept_exponential im n nonzero kind, stored_exponential im n nonzero kind, fit_exponential im n fit kind nonzero, fit.size)
+          go false kind = omega (arith, kept_fixed im n nonzero kind, stored_fixed im n nonzero kind, kept-size, fit.size)
 
       -- with some digit kept the truncation is the number with the other digits zero
       pub number-some : (place : ℕ) → number_of place im (truncated_to im n) ≡ done (kept_number im n)
@@ -170,8 +170,8 @@ module _ (im : Image) (n : Number) where
           let down = exponent_limit + im.fraction in
           let x = stored_exponent im n in
           let negative = (truncated_to im n).negative in
-          let nonzero-whole = eqb-false (whole_of im n) 0 (kept-none ∙ ne_eqb (kept_count im n) 0 (omega arith)) in
-          scaled-shifted place negative (whole_of im n) x down (omega arith) (omega (arith, times_power (whole_of im n) (dropped_count im n), whole-high))
+          let nonzero-whole = eqb-false (whole_of im n) 0 (kept_none ∙ ne_eqb (kept_count im n) 0 (omega arith)) in
+          scaled_shifted place negative (whole_of im n) x down (omega arith) (omega (arith, times_power (whole_of im n) (dropped_count im n), whole-high))
           ∙ ap (λ (z : ℕ). shifted_number place negative (whole_of im n) x down z) zeros
           ∙ shifted-done place negative (whole_of im n) x down (dropped_count im n) (omega (arith, exponent-kept)) (omega (arith, exponent-kept, range.top))
           ∙ ap {B = Answer Number} done (number_path kept-sign (ap (λ (k : ℕ). k * 10 ^ dropped_count im n) kept_whole) (omega (arith, exponent-kept)))
@@ -195,8 +195,8 @@ module _ (im : Image) (n : Number) where
             number_checked = range_normal (kept_number im n) kept-range;
             within =
                 ap₂ (λ (o x : Bool). pick im.exponential o x)
-                (same-outside im (kept_number im n) n kept-range range refl)
-                (same-exceeds im (kept_number im n) n kept-range range refl)
+                (same_outside im (kept_number im n) n kept-range range refl)
+                (same_exceeds im (kept_number im n) n kept-range range refl)
                 ∙ fit.within;
           }
 
@@ -206,8 +206,8 @@ zero_fits im low high =
     record { nonempty = low; size = high; number_checked = zero_normal; within = go im.exponential }
   where
     go : (b : Bool) → pick b (exponent_outside im zero_number) (exceeds im zero_number) ≡ false
-    go true = outside-zero im zero_number refl
-    go false = exceeds-zero im
+    go true = outside_zero im zero_number refl
+    go false = exceeds_zero im
 
 module _ (im : Image) (n : Number) (fit : Fit im n) where
   -- the number with the other digits zero has the same truncation
@@ -230,30 +230,30 @@ module _ (im : Image) (n : Number) (fit : Fit im n) where
       ∙ and_again (is_signed im.sign) n.negative (not (eqb (kept_count im n) 0))
       ∙ sym (kept-sign im n fit))
       whole
-      (same-stored im k n in-k in-n refl)
+      (same_stored im k n in-k in-n refl)
 
   -- zero has the truncation of every number of which no digit is kept
-  zero-again : kept_count im n ≡ 0 → truncated_to im zero_number ≡ truncated_to im n
+  zero_again : kept_count im n ≡ 0 → truncated_to im zero_number ≡ truncated_to im n
   unfolding truncated_to kept_number
-  zero-again none =
+  zero_again none =
       truncated_path
       (and_none (is_signed im.sign) false
       ∙ sym
       (kept-sign im n fit
       ∙ rw (eq-eqb (kept_count im n) 0 none) (and_none (is_signed im.sign) n.negative)))
-      (whole-zero im zero_number refl ∙ sym (eqb-true (whole_of im n) 0 (kept-none im n fit ∙ eq-eqb (kept_count im n) 0 none)))
-      (stored-zero im zero_number refl ∙ sym stored)
+      (whole_zero im zero_number refl ∙ sym (eqb-true (whole_of im n) 0 (kept_none im n fit ∙ eq-eqb (kept_count im n) 0 none)))
+      (stored_zero im zero_number refl ∙ sym stored)
     where
       some-kind : (n.mantissa ≡ 0 → ⊥) → (b : Bool) → im.exponential ≡ b → stored_exponent im n ≡ exponent_limit
-      some-kind nz true kind = absurd (omega (arith, kept-exponential im n nz kind, fit.nonempty))
-      some-kind nz false kind = stored-fixed im n nz kind
+      some-kind nz true kind = absurd (omega (arith, kept_exponential im n nz kind, fit.nonempty))
+      some-kind nz false kind = stored_fixed im n nz kind
 
       stored : stored_exponent im n ≡ exponent_limit
-      stored = ⊎_elim (λ z. stored-zero im n z) (λ nz. some-kind nz im.exponential refl) (zero_or_not n.mantissa)
+      stored = ⊎_elim (λ z. stored_zero im n z) (λ nz. some-kind nz im.exponential refl) (zero_or_not n.mantissa)
 
   -- a truncation is a number in normal form that truncates to itself
-  fit-itself : (place : ℕ) → TruncatesToItself place im (truncated_to im n)
-  fit-itself place = ⊎_elim none some (zero_or_not (kept_count im n))
+  fit_itself : (place : ℕ) → TruncatesToItself place im (truncated_to im n)
+  fit_itself place = ⊎_elim none some (zero_or_not (kept_count im n))
     where
       none : kept_count im n ≡ 0 → TruncatesToItself place im (truncated_to im n)
       none e =
@@ -262,8 +262,8 @@ module _ (im : Image) (n : Number) (fit : Fit im n) where
             stands_for = number-none im n fit place e;
             is_normal = zero_normal;
             again =
-                fit-truncation place im zero_number (zero_fits im fit.nonempty fit.size)
-                ∙ ap {B = Answer Truncated} done (zero-again e);
+                fit_truncation place im zero_number (zero_fits im fit.nonempty fit.size)
+                ∙ ap {B = Answer Truncated} done (zero_again e);
           }
 
       some : (kept_count im n ≡ 0 → ⊥) → TruncatesToItself place im (truncated_to im n)
@@ -275,12 +275,12 @@ module _ (im : Image) (n : Number) (fit : Fit im n) where
             stands_for = number-some im n fit positive place;
             is_normal = fits.number_checked;
             again =
-                fit-truncation place im (kept_number im n) fits ∙ ap {B = Answer Truncated} done (kept_again positive);
+                fit_truncation place im (kept_number im n) fits ∙ ap {B = Answer Truncated} done (kept_again positive);
           }
 
 -- Published: whatever is truncated is a number in normal form that truncates to itself, under the same image and with no refusal.
 pub truncates_to_itself :
     (place : ℕ) (im : Image) (n : Number) {t : Truncated} → truncation place im n ≡ done t → TruncatesToItself place im t
 truncates_to_itself place im n h =
-    subst⁻¹ (λ (t : Truncated). TruncatesToItself place im t) (truncation-done place im n h)
-    (fit-itself im n (truncation-fit place im n h) place)
+    subst⁻¹ (λ (t : Truncated). TruncatesToItself place im t) (truncation_done place im n h)
+    (fit_itself im n (truncation_fit place im n h) place)

@@ -8,7 +8,7 @@ use Rattle.decimal.specs.Digits.{precision, leading_zeros}
 use Rattle.decimal.specs.Number.{exponent_limit, zero_number, largest_number, normal, magnitude, unit, scaled_number}
 use Rattle.decimal.proofs.PowerLaws.{pow10_pos, pow10_add, pow10_mono, times_power}
 use Rattle.decimal.proofs.DigitLaws.{le_or_lt, leading_low, leading_top}
-use Rattle.decimal.proofs.NumberLaws.{InRange, normal_cases, range_normal, zero_normal, number_path, scaled-too-long, scaled_zero, scaled-shifted, shifted-below, shifted-above, shifted-done}
+use Rattle.decimal.proofs.NumberLaws.{InRange, normal_cases, range_normal, zero_normal, number_path, scaled_too_long, scaled_zero, scaled_shifted, shifted-below, shifted-above, shifted-done}
 
 -- The arithmetic, over the width: a mantissa has suc p digits.
 
@@ -45,16 +45,16 @@ filled_unique p m e n f low high low' high' same =
 
 module _ (w z s u d : ℕ) where
   -- a number with z tens more and an exponent that makes up for them
-  shifted-power : d + z ≤ s + u → w * 10 ^ z * 10 ^ (s + u - (d + z)) * 10 ^ d ≡ w * 10 ^ u * 10 ^ s
-  shifted-power h =
+  shifted_power : d + z ≤ s + u → w * 10 ^ z * 10 ^ (s + u - (d + z)) * 10 ^ d ≡ w * 10 ^ u * 10 ^ s
+  shifted_power h =
       power_in (w * 10 ^ z) (s + u - (d + z)) d
       ∙ power_in w z (s + u - (d + z) + d)
       ∙ ap (λ (q : ℕ). w * 10 ^ q) (omega arith)
       ∙ sym (power_in w u s)
 
   -- z tens more on both sides
-  tens-added : (m e : ℕ) → m * 10 ^ e * 10 ^ d ≡ w * 10 ^ u * 10 ^ s → m * 10 ^ (e + (d + z)) ≡ w * 10 ^ z * 10 ^ (s + u)
-  tens-added m e same =
+  tens_added : (m e : ℕ) → m * 10 ^ e * 10 ^ d ≡ w * 10 ^ u * 10 ^ s → m * 10 ^ (e + (d + z)) ≡ w * 10 ^ z * 10 ^ (s + u)
+  tens_added m e same =
       sym (power_in m e (d + z))
       ∙ sym (power_in (m * 10 ^ e) d z)
       ∙ ap (λ (q : ℕ). q * 10 ^ z) same
@@ -64,7 +64,7 @@ module _ (w z s u d : ℕ) where
       ∙ sym (power_in w z (s + u))
 
   -- a mantissa that fills its digits, with the magnitude of such a number, is that number's
-  shifted-unique :
+  shifted_unique :
       (p m e : ℕ)
       → 10 ^ p ≤ m
       → m < 10 ^ suc p
@@ -72,8 +72,8 @@ module _ (w z s u d : ℕ) where
       → w * 10 ^ z < 10 ^ suc p
       → m * 10 ^ e * 10 ^ d ≡ w * 10 ^ u * 10 ^ s
       → (m ≡ w * 10 ^ z) × (e + (d + z) ≡ s + u)
-  shifted-unique p m e low high low' high' same =
-      filled_unique p m (e + (d + z)) (w * 10 ^ z) (s + u) low high low' high' (tens-added m e same)
+  shifted_unique p m e low high low' high' same =
+      filled_unique p m (e + (d + z)) (w * 10 ^ z) (s + u) low high low' high' (tens_added m e same)
 
 -- zero is the least number
 zero_least : (k : ℕ) → 0 ≤ k
@@ -170,14 +170,14 @@ module _ (place : ℕ) (negative : Bool) (whole up down : ℕ) where
     pub top : start - (down + lead) ≤ 2 * exponent_limit
 
   -- the shifted number is given
-  shifted-given : Shifted → scaled_number place negative whole up down ≡ done shifted
-  shifted-given s =
-      scaled-shifted place negative whole up down s.positive s.fits
+  shifted_given : Shifted → scaled_number place negative whole up down ≡ done shifted
+  shifted_given s =
+      scaled_shifted place negative whole up down s.positive s.fits
       ∙ shifted-done place negative whole up down lead s.room s.top
 
   -- it is within the bounds
-  shifted-range : Shifted → InRange shifted
-  shifted-range s =
+  shifted_range : Shifted → InRange shifted
+  shifted_range s =
       record {
         low = leading_low (precision - 1) whole s.positive s.fits;
         high = leading_top (precision - 1) whole s.positive s.fits;
@@ -185,20 +185,20 @@ module _ (place : ℕ) (negative : Bool) (whole up down : ℕ) where
       }
 
   -- the number given is zero for zero, else the shifted number
-  scaled-view : {n : Number} → scaled_number place negative whole up down ≡ done n → ((whole ≡ 0) × (n ≡ zero_number)) ⊎ (Shifted × (n ≡ shifted))
-  scaled-view {n} h =
+  scaled_view : {n : Number} → scaled_number place negative whole up down ≡ done n → ((whole ≡ 0) × (n ≡ zero_number)) ⊎ (Shifted × (n ≡ shifted))
+  scaled_view {n} h =
       ⊎_elim
-      (λ long. absurd (not_both (scaled-too-long place negative whole up down long) h))
+      (λ long. absurd (not_both (scaled_too_long place negative whole up down long) h))
       (λ fits.
       ⊎_elim
       (λ none. let e : whole ≡ 0 = omega arith in inl (e, one_number h (scaled_zero place negative whole up down e)))
-      (λ positive. let s = within positive fits in inr (s, one_number h (shifted-given s)))
+      (λ positive. let s = within positive fits in inr (s, one_number h (shifted_given s)))
       (le_or_lt whole 0))
       (le_or_lt (10 ^ precision) whole)
     where
       within : 0 < whole → whole < 10 ^ precision → Shifted
       within positive fits =
-          let given = sym (scaled-shifted place negative whole up down positive fits) ∙ h in
+          let given = sym (scaled_shifted place negative whole up down positive fits) ∙ h in
           ⊎_elim
           (λ room.
           ⊎_elim
@@ -214,8 +214,8 @@ module _ (place : ℕ) (negative : Bool) (whole up down : ℕ) where
     scaled-normal =
         ⊎_elim
         (λ e. rw e.1 zero_normal)
-        (λ s. rw s.1 (range_normal shifted (shifted-range s.0)))
-        (scaled-view given)
+        (λ s. rw s.1 (range_normal shifted (shifted_range s.0)))
+        (scaled_view given)
 
     -- its magnitude is whole × 10^up / 10^down
     pub scaled-magnitude : magnitude n * 10 ^ down ≡ whole * 10 ^ up * unit
@@ -223,8 +223,8 @@ module _ (place : ℕ) (negative : Bool) (whole up down : ℕ) where
     scaled-magnitude =
         ⊎_elim
         (λ e. rw (e.1, e.0, zero-mul (10 ^ exponent_limit), zero-mul (10 ^ down), zero-mul (10 ^ up), zero-mul unit))
-        (λ s. rw s.1 (shifted-power whole lead (exponent_limit + (precision - 1)) up down s.0.room))
-        (scaled-view given)
+        (λ s. rw s.1 (shifted_power whole lead (exponent_limit + (precision - 1)) up down s.0.room))
+        (scaled_view given)
 
     -- its sign is the sign asked for, unless it is zero
     pub scaled_sign : 0 < whole → n.negative ≡ negative
@@ -232,7 +232,7 @@ module _ (place : ℕ) (negative : Bool) (whole up down : ℕ) where
         ⊎_elim
         (λ e. absurd (omega (arith, e.0)))
         (λ s. ap (λ (k : Number). k.negative) s.1)
-        (scaled-view given)
+        (scaled_view given)
 
   module _ (n : Number) (fits : whole < 10 ^ precision) (means : magnitude n * 10 ^ down ≡ whole * 10 ^ up * unit) where
     -- where the magnitude is zero's, zero is given
@@ -250,20 +250,20 @@ module _ (place : ℕ) (negative : Bool) (whole up down : ℕ) where
         let positive = some_left (magnitude n * 10 ^ down) whole up (exponent_limit + (precision - 1)) something means in
         let low = leading_low (precision - 1) whole positive fits in
         let high = leading_top (precision - 1) whole positive fits in
-        let parts = shifted-unique whole lead (exponent_limit + (precision - 1)) up down (precision - 1) n.mantissa n.exponent r.low r.high low high means in
+        let parts = shifted_unique whole lead (exponent_limit + (precision - 1)) up down (precision - 1) n.mantissa n.exponent r.low r.high low high means in
         let left = other_part n.exponent (down + lead) start parts.1 in
-        shifted-given (record { positive = positive; fits = fits; room = left.0; top = rw left.1 r.top })
+        shifted_given (record { positive = positive; fits = fits; room = left.0; top = rw left.1 r.top })
         ∙ ap done (number_path refl (sym parts.0) left.1)
 
   -- where 5 is answered, no normal number has the magnitude
-  pub scaled-refused-five :
+  pub scaled_refused_five :
       whole < 10 ^ precision
       → scaled_number place negative whole up down ≡ refused 5 place
       → (n : Number)
       → normal n ≡ true
       → magnitude n * 10 ^ down ≡ whole * 10 ^ up * unit
       → ⊥
-  scaled-refused-five fits answer n h means =
+  scaled_refused_five fits answer n h means =
       ⊎_elim
       (λ e. not_both answer (meant-zero n fits means e))
       (λ r. not_both answer (meant-range n fits means r))

@@ -14,27 +14,27 @@ use Rattle.decimal.specs.Number.{exponent_limit, zero_number, largest_number, no
 
 module _ (n : Number) where
   -- with a zero mantissa the sign is plus and the exponent 0
-  pub normal-zero : n.mantissa ≡ 0 → normal n ≡ (not n.negative && eqb n.exponent exponent_limit)
+  pub normal_zero : n.mantissa ≡ 0 → normal n ≡ (not n.negative && eqb n.exponent exponent_limit)
   unfolding normal
-  normal-zero h = rw (eq-eqb n.mantissa 0 h)
+  normal_zero h = rw (eq-eqb n.mantissa 0 h)
 
   -- a nonzero mantissa is within its bounds, and so is the exponent
-  pub normal-nonzero :
+  pub normal_nonzero :
       (n.mantissa ≡ 0 → ⊥)
       → normal n
       ≡ (leb (10 ^ (precision - 1)) n.mantissa && (ltb n.mantissa (10 ^ precision) && leb n.exponent (2 * exponent_limit)))
   unfolding normal
-  normal-nonzero h = rw (ne_eqb n.mantissa 0 h)
+  normal_nonzero h = rw (ne_eqb n.mantissa 0 h)
 
   -- a number in normal form is its own check
-  pub check-normal : (place : ℕ) → normal n ≡ true → check_number place n ≡ done n
+  pub check_normal : (place : ℕ) → normal n ≡ true → check_number place n ≡ done n
   unfolding check_number
-  check-normal place h = rw h
+  check_normal place h = rw h
 
   -- any other number is refused with 3
-  pub check-abnormal : (place : ℕ) → normal n ≡ false → check_number place n ≡ refused 3 place
+  pub check_abnormal : (place : ℕ) → normal n ≡ false → check_number place n ≡ refused 3 place
   unfolding check_number
-  check-abnormal place h = rw h
+  check_abnormal place h = rw h
 
 -- the bounds of a nonzero number in normal form
 pub record InRange (n : Number) : Type 0 where
@@ -52,12 +52,12 @@ normal_cases n h = go (eqb n.mantissa 0) refl
   where
     zero-case : n.mantissa ≡ 0 → n ≡ zero_number
     zero-case z =
-        let parts = and_true _ _ (sym (normal-zero n z) ∙ h) in
+        let parts = and_true _ _ (sym (normal_zero n z) ∙ h) in
         number_path (not-true n.negative parts.0) z (eqb-true n.exponent exponent_limit parts.1)
 
     range : (n.mantissa ≡ 0 → ⊥) → InRange n
     range z =
-        let parts = and_true _ _ (sym (normal-nonzero n z) ∙ h) in
+        let parts = and_true _ _ (sym (normal_nonzero n z) ∙ h) in
         let rest = and_true _ _ parts.1 in
         record {
           low = leb-true _ n.mantissa parts.0;
@@ -72,7 +72,7 @@ normal_cases n h = go (eqb n.mantissa 0) refl
 -- a number within the bounds is in normal form
 pub range_normal : (n : Number) → InRange n → normal n ≡ true
 range_normal n r =
-    normal-nonzero n (omega (arith, r.low))
+    normal_nonzero n (omega (arith, r.low))
     ∙ rw
     (le-leb (10 ^ (precision - 1)) n.mantissa r.low, lt-ltb n.mantissa (10 ^ precision) r.high, le-leb n.exponent (2 * exponent_limit) r.top)
 
@@ -109,9 +109,9 @@ normal_is_zero n h z = ⊎_elim (λ e. e) (λ r. absurd (omega (arith, r.low))) 
 
 module _ (place : ℕ) (negative : Bool) (whole up down : ℕ) where
   -- over 13 digits
-  pub scaled-too-long : 10 ^ precision ≤ whole → scaled_number place negative whole up down ≡ refused 3 place
+  pub scaled_too_long : 10 ^ precision ≤ whole → scaled_number place negative whole up down ≡ refused 3 place
   unfolding scaled_number
-  scaled-too-long h = rw (le-leb (10 ^ precision) whole h)
+  scaled_too_long h = rw (le-leb (10 ^ precision) whole h)
 
   -- zero is plus, whatever the sign and the power
   pub scaled_zero : whole ≡ 0 → scaled_number place negative whole up down ≡ done zero_number
@@ -119,12 +119,12 @@ module _ (place : ℕ) (negative : Bool) (whole up down : ℕ) where
   scaled_zero h = rw (lt-leb (10 ^ precision) whole (omega arith), eq-eqb whole 0 h)
 
   -- any other number is shifted by its leading zeros
-  pub scaled-shifted :
+  pub scaled_shifted :
       0 < whole
       → whole < 10 ^ precision
       → scaled_number place negative whole up down ≡ shifted_number place negative whole up down (leading_zeros precision whole)
   unfolding scaled_number
-  scaled-shifted h l = rw (lt-leb (10 ^ precision) whole l, ne_eqb whole 0 (omega arith))
+  scaled_shifted h l = rw (lt-leb (10 ^ precision) whole l, ne_eqb whole 0 (omega arith))
 
   module _ (zeros : ℕ) where
     -- below the smallest exponent
@@ -192,9 +192,9 @@ module _ (j : ℕ) (s : Shifted) where
   shift_none h = rw (le-ltb s.mantissa (10 ^ (precision - j)) h)
 
   -- else it is shifted by j digits
-  pub shift-some : s.mantissa < 10 ^ (precision - j) → shift_past j s ≡ record { mantissa = s.mantissa * 10 ^ j; zeros = s.zeros + j }
+  pub shift_some : s.mantissa < 10 ^ (precision - j) → shift_past j s ≡ record { mantissa = s.mantissa * 10 ^ j; zeros = s.zeros + j }
   unfolding shift_past
-  shift-some h = rw (lt-ltb s.mantissa (10 ^ (precision - j)) h)
+  shift_some h = rw (lt-ltb s.mantissa (10 ^ (precision - j)) h)
 
   -- then it keeps to its digits
   pub shift_fits : j ≤ precision → s.mantissa < 10 ^ (precision - j) → s.mantissa * 10 ^ j < 10 ^ precision
@@ -204,8 +204,8 @@ module _ (j : ℕ) (s : Shifted) where
       omega (arith, parts, mul-lt-mul_of_pos_right h (pow10_pos j))
 
   -- a step past j zeros leaves half of the zeros that may stand before the number
-  pub shifting-step : (whole : ℕ) → 0 < j → j ≤ precision → Shifting whole (j + j) s → Shifting whole j (shift_past j s)
-  shifting-step whole some size g = ⊎_elim stays shifts (le_or_lt (10 ^ (precision - j)) s.mantissa)
+  pub shifting_step : (whole : ℕ) → 0 < j → j ≤ precision → Shifting whole (j + j) s → Shifting whole j (shift_past j s)
+  shifting_step whole some size g = ⊎_elim stays shifts (le_or_lt (10 ^ (precision - j)) s.mantissa)
     where
       stays : 10 ^ (precision - j) ≤ s.mantissa → Shifting whole j (shift_past j s)
       stays h =
@@ -222,7 +222,7 @@ module _ (j : ℕ) (s : Shifted) where
       shifts h =
           let fits = shift_fits size h in
           let less = leading_shift (precision - 1) j s.mantissa g.positive fits in
-          rw (shift-some h)
+          rw (shift_some h)
           (record {
             product =
                 ap (λ (m : ℕ). m * 10 ^ j) g.product

@@ -4,7 +4,7 @@ use lib.Signed.{lt_z}
 use Rattle.decimal.specs.declared.number.Number.{Number}
 use Rattle.decimal.specs.Answer.{refused}
 use Rattle.decimal.specs.Number.{exponent_limit, normal, new_number, held_number, parts_number}
-use Rattle.decimal.proofs.NumberLaws.{check-abnormal, normal_top}
+use Rattle.decimal.proofs.NumberLaws.{check_abnormal, normal_top}
 
 -- what the field exponent holds for an exponent e within its limits
 pub record HeldAs (e : ℤ) : Type 0 where
@@ -41,8 +41,8 @@ module _ (place : ℕ) (negative : Bool) (mantissa : ℕ) where
       rw (lt-ltb exponent_limit (suc n) (omega arith))
 
   -- an exponent above its limit is in no normal form
-  top-abnormal : (held : ℕ) → 2 * exponent_limit < held → new_number place negative mantissa held ≡ refused 3 place
-  top-abnormal held h = check-abnormal n place (go (normal n) refl)
+  top_abnormal : (held : ℕ) → 2 * exponent_limit < held → new_number place negative mantissa held ≡ refused 3 place
+  top_abnormal held h = check_abnormal n place (go (normal n) refl)
     where
       n : Number
       n = record { negative = negative; mantissa = mantissa; exponent = held }
@@ -52,9 +52,9 @@ module _ (place : ℕ) (negative : Bool) (mantissa : ℕ) where
       go false e = e
 
   -- above 99 no number is given
-  pub parts-above : (e : ℤ) → lt_z (pos exponent_limit) e ≡ true → parts_number place negative mantissa e ≡ refused 3 place
+  pub parts_above : (e : ℤ) → lt_z (pos exponent_limit) e ≡ true → parts_number place negative mantissa e ≡ refused 3 place
   unfolding parts_number
-  parts-above (pos n) h =
+  parts_above (pos n) h =
       let more = ltb-true exponent_limit n h in
-      top-abnormal (n + exponent_limit) (omega arith)
-  parts-above (negsuc n) h = not_true_false h
+      top_abnormal (n + exponent_limit) (omega arith)
+  parts_above (negsuc n) h = not_true_false h

@@ -13,12 +13,12 @@ pub record RefusesOnly {A : Type 0} (kind : ℕ → ℕ → Type 0) (a : Answer 
 
 module _ {kind : ℕ → ℕ → Type 0} where
   -- one that is done
-  pub only-done : {A : Type 0} {a : A} → RefusesOnly kind (done a)
-  only-done = record { each = λ h. never_done (sym h) }
+  pub only_done : {A : Type 0} {a : A} → RefusesOnly kind (done a)
+  only_done = record { each = λ h. never_done (sym h) }
 
   -- one that is refused so
-  pub only-refused : {A : Type 0} {number place : ℕ} → kind number place → RefusesOnly {A = A} kind (refused number place)
-  only-refused {A} {number} {place} k = record { each = same }
+  pub only_refused : {A : Type 0} {number place : ℕ} → kind number place → RefusesOnly {A = A} kind (refused number place)
+  only_refused {A} {number} {place} k = record { each = same }
     where
       same : {n p : ℕ} → ◌≡◌ {A = Answer A} (refused number place) (refused n p) → kind n p
       same {n} {p} h =
@@ -27,26 +27,26 @@ module _ {kind : ℕ → ℕ → Type 0} where
           subst (λ (x : ℕ). kind n x) same_place (subst (λ (x : ℕ). kind x place) same_number k)
 
   -- a choice
-  pub only-choice : {A : Type 0} (test : Bool) {x y : Answer A} → RefusesOnly kind x → RefusesOnly kind y → RefusesOnly kind (pick test x y)
-  only-choice true p q = p
-  only-choice false p q = q
+  pub only_choice : {A : Type 0} (test : Bool) {x y : Answer A} → RefusesOnly kind x → RefusesOnly kind y → RefusesOnly kind (pick test x y)
+  only_choice true p q = p
+  only_choice false p q = q
 
   -- a step after another
   pub only_then : {A B : Type 0} (a : Answer A) {f : A → Answer B} → RefusesOnly kind a → ((v : A) → RefusesOnly kind (f v)) → RefusesOnly kind (a then f)
   unfolding ◌then◌
   only_then (done v) p q = q v
-  only_then (refused number place) p q = only-refused (p.each refl)
+  only_then (refused number place) p q = only_refused (p.each refl)
 
   -- Published: reading an image gives 1 and 2 alone;
-  pub image-refusals : (place : ℕ) (bytes : List ℕ) → kind 1 place → kind 2 place → RefusesOnly kind (read_image place bytes)
+  pub image_refusals : (place : ℕ) (bytes : List ℕ) → kind 1 place → kind 2 place → RefusesOnly kind (read_image place bytes)
   unfolding read_image check_image
-  image-refusals place bytes one two =
-      only-choice (is_image (run_state Start bytes))
-      (only-choice (eqb (hashes (scanned_image bytes)) 0) (only-refused one)
-      (only-choice (ltb precision (hashes (scanned_image bytes))) (only-refused two) only-done))
-      (only-refused one)
+  image_refusals place bytes one two =
+      only_choice (is_image (run_state Start bytes))
+      (only_choice (eqb (hashes (scanned_image bytes)) 0) (only_refused one)
+      (only_choice (ltb precision (hashes (scanned_image bytes))) (only_refused two) only_done))
+      (only_refused one)
 
   -- checking a number 3.
-  pub number-refusals : (place : ℕ) (n : Number) → kind 3 place → RefusesOnly kind (check_number place n)
+  pub number_refusals : (place : ℕ) (n : Number) → kind 3 place → RefusesOnly kind (check_number place n)
   unfolding check_number
-  number-refusals place n three = only-choice (normal n) only-done (only-refused three)
+  number_refusals place n three = only_choice (normal n) only_done (only_refused three)

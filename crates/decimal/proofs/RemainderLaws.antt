@@ -14,8 +14,8 @@ use Rattle.decimal.proofs.BoolLaws.{zero_or_not}
 use Rattle.decimal.proofs.PowerLaws.{pow10_pos, pow10_mono}
 use Rattle.decimal.proofs.ScaleLaws.{sum_counted, cut_sum}
 use Rattle.decimal.proofs.MagnitudeLaws.{scaled-magnitude}
-use Rattle.decimal.proofs.TruncationLaws.{fit-truncation}
-use Rattle.decimal.proofs.KeptLaws.{kept-none, kept_whole, number-some}
+use Rattle.decimal.proofs.TruncationLaws.{fit_truncation}
+use Rattle.decimal.proofs.KeptLaws.{kept_none, kept_whole, number-some}
 
 -- remainders are equal where their fields are
 pub remainder_path : {a b : Remainder} → a.whole ≡ b.whole → a.power ≡ b.power → a ≡ b
@@ -34,16 +34,16 @@ module _ (n : Number) where
 
 module _ (im : Image) (n : Number) where
   -- the last digits of the mantissa
-  abbrev pub lastDigits : ℕ
-  lastDigits = n.mantissa % 10 ^ dropped_count im n
+  abbrev pub last_digits : ℕ
+  last_digits = n.mantissa % 10 ^ dropped_count im n
 
   -- those of zero
-  pub last-zero : n.mantissa ≡ 0 → lastDigits ≡ 0
-  last-zero z = ap (λ (m : ℕ). m % 10 ^ dropped_count im n) z ∙ zero-mod (10 ^ dropped_count im n)
+  pub last_zero : n.mantissa ≡ 0 → last_digits ≡ 0
+  last_zero z = ap (λ (m : ℕ). m % 10 ^ dropped_count im n) z ∙ zero-mod (10 ^ dropped_count im n)
 
   -- they are below 10^13
-  pub last-below : lastDigits < 10 ^ precision
-  last-below = lt_of_lt_of_le (mod-lt n.mantissa (pow10_pos (dropped_count im n))) (pow10_mono {i = dropped_count im n} {j = precision} (omega arith))
+  pub last_below : last_digits < 10 ^ precision
+  last_below = lt_of_lt_of_le (mod-lt n.mantissa (pow10_pos (dropped_count im n))) (pow10_mono {i = dropped_count im n} {j = precision} (omega arith))
 
   module _ (fit : Fit im n) where
     -- the truncated magnitude is the mantissa's first digits with zeros
@@ -58,7 +58,7 @@ module _ (im : Image) (n : Number) where
             → truncated_units (truncated_to im n)
             ≡ n.mantissa / 10 ^ dropped_count im n * 10 ^ dropped_count im n * 10 ^ n.exponent * finer im
         none e =
-            let nothing : whole_of im n ≡ 0 = eqb-true (whole_of im n) 0 (kept-none im n fit ∙ eq-eqb (kept_count im n) 0 e) in
+            let nothing : whole_of im n ≡ 0 = eqb-true (whole_of im n) 0 (kept_none im n fit ∙ eq-eqb (kept_count im n) 0 e) in
             let first : n.mantissa / 10 ^ dropped_count im n ≡ 0 = sym (kept_whole im n fit) ∙ nothing in
             rw (nothing, first, zero-mul (10 ^ stored_exponent im n), zero-mul (10 ^ dropped_count im n), zero-mul (10 ^ n.exponent))
             (zero-mul unit ∙ sym (zero-mul (finer im)))
@@ -71,14 +71,14 @@ module _ (im : Image) (n : Number) where
 
     -- with the last digits it is the magnitude
     pub last_sum :
-        truncated_units (truncated_to im n) + lastDigits * 10 ^ n.exponent * finer im ≡ magnitude_units im n
+        truncated_units (truncated_to im n) + last_digits * 10 ^ n.exponent * finer im ≡ magnitude_units im n
     unfolding magnitude
     last_sum =
-        ap (λ (u : ℕ). u + lastDigits * 10 ^ n.exponent * finer im) truncated-first
+        ap (λ (u : ℕ). u + last_digits * 10 ^ n.exponent * finer im) truncated-first
         ∙ cut_sum n.mantissa (10 ^ dropped_count im n) (10 ^ n.exponent) (finer im)
 
     -- r is the last digits
-    pub cut-last : (cut_off im n (truncated_to im n)).whole ≡ lastDigits
+    pub cut-last : (cut_off im n (truncated_to im n)).whole ≡ last_digits
     unfolding cut_off
     cut-last = ⊎_elim zero some (zero_or_not n.mantissa)
       where
@@ -91,21 +91,21 @@ module _ (im : Image) (n : Number) where
             (one-le-mul (pow10_pos p) (pow10_pos (exponent_limit + im.fraction)))
             (ap (λ (q : ℕ). truncated_units (truncated_to im n) + q) (sym (mul_assoc r (10 ^ p) (finer im))) ∙ h)
 
-        zero : n.mantissa ≡ 0 → (magnitude_units im n - truncated_units (truncated_to im n)) / (10 ^ cut_power n * finer im) ≡ lastDigits
+        zero : n.mantissa ≡ 0 → (magnitude_units im n - truncated_units (truncated_to im n)) / (10 ^ cut_power n * finer im) ≡ last_digits
         zero z =
-            let none = last-zero z in
-            let same : lastDigits * 10 ^ cut_power n ≡ lastDigits * 10 ^ n.exponent = rw none (zero-mul (10 ^ cut_power n) ∙ sym (zero-mul (10 ^ n.exponent))) in
-            counted lastDigits (cut_power n) (ap (λ (q : ℕ). truncated_units (truncated_to im n) + q * finer im) same ∙ last_sum)
+            let none = last_zero z in
+            let same : last_digits * 10 ^ cut_power n ≡ last_digits * 10 ^ n.exponent = rw none (zero-mul (10 ^ cut_power n) ∙ sym (zero-mul (10 ^ n.exponent))) in
+            counted last_digits (cut_power n) (ap (λ (q : ℕ). truncated_units (truncated_to im n) + q * finer im) same ∙ last_sum)
 
-        some : (n.mantissa ≡ 0 → ⊥) → (magnitude_units im n - truncated_units (truncated_to im n)) / (10 ^ cut_power n * finer im) ≡ lastDigits
-        some nz = rw (power_some n nz) (counted lastDigits n.exponent last_sum)
+        some : (n.mantissa ≡ 0 → ⊥) → (magnitude_units im n - truncated_units (truncated_to im n)) / (10 ^ cut_power n * finer im) ≡ last_digits
+        some nz = rw (power_some n nz) (counted last_digits n.exponent last_sum)
 
     -- what is found of a number that fits
     pub remainder-fit : (place : ℕ) → remainder place im n ≡ done (cut_off im n (truncated_to im n))
     unfolding remainder
-    remainder-fit place = then_next _ (fit-truncation place im n fit)
+    remainder-fit place = then_next _ (fit_truncation place im n fit)
 
   -- what truncation refuses has no remainder
-  pub remainder-refused : (place : ℕ) {number at_place : ℕ} → truncation place im n ≡ refused number at_place → remainder place im n ≡ refused number at_place
+  pub remainder_refused : (place : ℕ) {number at_place : ℕ} → truncation place im n ≡ refused number at_place → remainder place im n ≡ refused number at_place
   unfolding remainder
-  remainder-refused place h = then_refused _ h
+  remainder_refused place h = then_refused _ h

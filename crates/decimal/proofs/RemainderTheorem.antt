@@ -15,8 +15,8 @@ use Rattle.decimal.proofs.AnswerLaws.{refused_first, done_same, one_answer, then
 use Rattle.decimal.proofs.BoolLaws.{zero_or_not}
 use Rattle.decimal.proofs.PowerLaws.{pow10_pos}
 use Rattle.decimal.proofs.MagnitudeLaws.{scaled-magnitude}
-use Rattle.decimal.proofs.TruncationLaws.{truncation-fit, truncation-done}
-use Rattle.decimal.proofs.RemainderLaws.{remainder_path, power_zero, power_some, lastDigits, last-zero, last-below, last_sum, cut-last, remainder-fit, remainder-refused}
+use Rattle.decimal.proofs.TruncationLaws.{truncation_fit, truncation_done}
+use Rattle.decimal.proofs.RemainderLaws.{remainder_path, power_zero, power_some, last_digits, last_zero, last_below, last_sum, cut-last, remainder-fit, remainder_refused}
 
 -- a sum taken away is its parts taken away
 less_sum : (a : ℤ) (b c : ℕ) → a -ℤ pos (b + c) ≡ a -ℤ pos b -ℤ pos c
@@ -51,8 +51,8 @@ other_number n b = record { negative = b; mantissa = n.mantissa; exponent = n.ex
 
 module _ (im : Image) (n : Number) where
   -- the r with a power that fulfils the sentence is the only one
-  sums-once : (t : Truncated) (r s : Remainder) → s.power ≡ r.power → Sums im n t r → Sums im n t s → s ≡ r
-  sums-once t r s same h g =
+  sums_once : (t : Truncated) (r s : Remainder) → s.power ≡ r.power → Sums im n t r → Sums im n t s → s ≡ r
+  sums_once t r s same h g =
       let at-power : truncated_units t + s.whole * 10 ^ r.power * finer im ≡ magnitude n * finer im =
       subst (λ (p : ℕ). truncated_units t + s.whole * 10 ^ p * finer im ≡ magnitude n * finer im) same g in
       remainder_path
@@ -60,61 +60,61 @@ module _ (im : Image) (n : Number) where
       same
 
   -- a truncation leaves one remainder
-  pub left-once : {t : Truncated} {r s : Remainder} → IsRemainder im n t r → IsRemainder im n t s → s ≡ r
-  left-once {t} {r} {s} p q =
+  pub left_once : {t : Truncated} {r s : Remainder} → IsRemainder im n t r → IsRemainder im n t s → s ≡ r
+  left_once {t} {r} {s} p q =
       ⊎_elim
-      (λ z. sums-once t r s (held_same s r ((q.zero z).1 ∙ sym (p.zero z).1)) p.sum q.sum)
-      (λ nz. sums-once t r s (held_same s r (q.power nz ∙ sym (p.power nz))) p.sum q.sum)
+      (λ z. sums_once t r s (held_same s r ((q.zero z).1 ∙ sym (p.zero z).1)) p.sum q.sum)
+      (λ nz. sums_once t r s (held_same s r (q.power nz ∙ sym (p.power nz))) p.sum q.sum)
       (zero_or_not n.mantissa)
 
   -- a number that fits leaves what the definition says
-  pub fit-left : Fit im n → IsRemainder im n (truncated_to im n) (cut_off im n (truncated_to im n))
+  pub fit_left : Fit im n → IsRemainder im n (truncated_to im n) (cut_off im n (truncated_to im n))
   unfolding cut_off
-  fit-left fit =
+  fit_left fit =
       record {
-        below = rw (cut-last im n fit) (last-below im n);
+        below = rw (cut-last im n fit) (last_below im n);
         power = λ nz. ap (λ (p : ℕ). pos p -ℤ pos scale) (power_some n nz) ∙ less_sum (pos n.exponent) exponent_limit (precision - 1);
-        zero = λ z. (cut-last im n fit ∙ last-zero im n z, ap (λ (p : ℕ). pos p -ℤ pos scale) (power_zero n z) ∙ +ℤ_invr (pos scale));
+        zero = λ z. (cut-last im n fit ∙ last_zero im n z, ap (λ (p : ℕ). pos p -ℤ pos scale) (power_zero n z) ∙ +ℤ_invr (pos scale));
         sum =
             ap (λ (q : ℕ). truncated_units (truncated_to im n) + q)
             (ap (λ (w : ℕ). w * 10 ^ cut_power n * finer im) (cut-last im n fit)
-            ∙ other_power (lastDigits im n) (cut_power n) n.exponent (finer im) zero-or-power)
+            ∙ other_power (last_digits im n) (cut_power n) n.exponent (finer im) zero-or-power)
             ∙ last_sum im n fit;
       }
     where
-      zero-or-power : (lastDigits im n ≡ 0) ⊎ (cut_power n ≡ n.exponent)
-      zero-or-power = ⊎_elim (λ z. inl (last-zero im n z)) (λ nz. inr (power_some n nz)) (zero_or_not n.mantissa)
+      zero-or-power : (last_digits im n ≡ 0) ⊎ (cut_power n ≡ n.exponent)
+      zero-or-power = ⊎_elim (λ z. inl (last_zero im n z)) (λ nz. inr (power_some n nz)) (zero_or_not n.mantissa)
 
 module _ (place : ℕ) (im : Image) (n : Number) where
   -- a remainder that is given is what the truncation leaves
-  given-left : {r : Remainder} → remainder place im n ≡ done r → (t : Truncated) × (truncation place im n ≡ done t) × IsRemainder im n t r
+  given_left : {r : Remainder} → remainder place im n ≡ done r → (t : Truncated) × (truncation place im n ≡ done t) × IsRemainder im n t r
   unfolding remainder
-  given-left {r} h =
+  given_left {r} h =
       let b = then_done (truncation place im n) (λ (t : Truncated). done (cut_off im n t)) h in
-      let fit = truncation-fit place im n b.first in
-      let to : b.value ≡ truncated_to im n = truncation-done place im n b.first in
+      let fit = truncation_fit place im n b.first in
+      let to : b.value ≡ truncated_to im n = truncation_done place im n b.first in
       let same : cut_off im n (truncated_to im n) ≡ r = ap (cut_off im n) (sym to) ∙ done_same b.second in
-      (truncated_to im n, b.first ∙ ap done to, subst (IsRemainder im n (truncated_to im n)) same (fit-left im n fit))
+      (truncated_to im n, b.first ∙ ap done to, subst (IsRemainder im n (truncated_to im n)) same (fit_left im n fit))
 
   -- and what a truncation leaves is given
-  left-given : {r : Remainder} → (t : Truncated) → truncation place im n ≡ done t → IsRemainder im n t r → remainder place im n ≡ done r
-  left-given {r} t h left =
-      let fit = truncation-fit place im n h in
-      let to : t ≡ truncated_to im n = truncation-done place im n h in
+  left_given : {r : Remainder} → (t : Truncated) → truncation place im n ≡ done t → IsRemainder im n t r → remainder place im n ≡ done r
+  left_given {r} t h left =
+      let fit = truncation_fit place im n h in
+      let to : t ≡ truncated_to im n = truncation_done place im n h in
       remainder-fit im n fit place
-      ∙ ap done (left-once im n (subst (λ (k : Truncated). IsRemainder im n k r) to left) (fit-left im n fit))
+      ∙ ap done (left_once im n (subst (λ (k : Truncated). IsRemainder im n k r) to left) (fit_left im n fit))
 
   -- the number zero leaves zero's
   zero_left : n.mantissa ≡ 0 → {r : Remainder} → remainder place im n ≡ done r → r ≡ zero_remainder
   zero_left z {r} h =
-      let parts = (given-left h).2.zero z in
+      let parts = (given_left h).2.zero z in
       remainder_path parts.0 (held_same r zero_remainder (parts.1 ∙ sym (+ℤ_invr (pos scale))))
 
   -- refused only where truncation is
   refused_as : (number at_place : ℕ) → remainder place im n ≡ refused number at_place → truncation place im n ≡ refused number at_place
   unfolding remainder
   refused_as number at_place h =
-      refused_first (truncation place im n) (λ (t : Truncated). done (cut_off im n t)) (λ t e. (cut_off im n (truncated_to im n), remainder-fit im n (truncation-fit place im n e) place)) h
+      refused_first (truncation place im n) (λ (t : Truncated). done (cut_off im n t)) (λ t e. (cut_off im n (truncated_to im n), remainder-fit im n (truncation_fit place im n e) place)) h
 
   -- the truncation as a number
   as_number :
@@ -125,7 +125,7 @@ module _ (place : ℕ) (im : Image) (n : Number) where
   unfolding truncated_number number_of
   as_number {m} {r} cut h =
       let b = then_done (truncation place im n) (number_of place im) cut in
-      let g = given-left h in
+      let g = given_left h in
       let t : Truncated = b.value in
       let sums : Sums im n t r = subst (λ (u : Truncated). Sums im n u r) (one_answer g.1 b.first) g.2.sum in
       let d : ℕ = finer im in
@@ -134,12 +134,12 @@ module _ (place : ℕ) (im : Image) (n : Number) where
       (add-mul (magnitude m) (r.whole * 10 ^ r.power) d ∙ ap (λ (q : ℕ). q + r.whole * 10 ^ r.power * d) size ∙ sums)
 
   -- Published: there is a remainder exactly where there is a truncation, and it alone fulfils the sentence.
-  pub remainder-exactly : RemainderExactly place im n
-  remainder-exactly =
+  pub remainder_exactly : RemainderExactly place im n
+  remainder_exactly =
       record {
-        given = λ r. (given-left, λ p. left-given p.0 p.1 p.2);
+        given = λ r. (given_left, λ p. left_given p.0 p.1 p.2);
         of_zero = zero_left;
-        refuses = λ number at_place. (refused_as number at_place, remainder-refused im n place);
+        refuses = λ number at_place. (refused_as number at_place, remainder_refused im n place);
         only = once;
         number_sum = as_number;
       }
@@ -153,8 +153,8 @@ module _ (place : ℕ) (im : Image) (n : Number) where
           → Sums im n t s
           → s ≡ r
       once {t} {r} cut h s same sums =
-          let g = given-left h in
-          sums-once im n t r s (held_same s r same) (subst (λ (u : Truncated). Sums im n u r) (one_answer g.1 cut) g.2.sum) sums
+          let g = given_left h in
+          sums_once im n t r s (held_same s r same) (subst (λ (u : Truncated). Sums im n u r) (one_answer g.1 cut) g.2.sum) sums
 
 -- Published: no sign plays a part. A number and an image with other signs leave the same.
 pub signs_apart :

@@ -71,19 +71,19 @@ reading_ends {bytes} {scan} {n} r h =
 
 module _ (bytes : List ℕ) (place : ℕ) where
   -- there are none at the end
-  pub hashes-end : length bytes ≤ place → hashes_in (drop place bytes) ≡ 0
+  pub hashes_end : length bytes ≤ place → hashes_in (drop place bytes) ≡ 0
   unfolding hashes_in
-  hashes-end h = ap hashes_in (drop_of_length-le bytes h)
+  hashes_end h = ap hashes_in (drop_of_length-le bytes h)
 
   -- a # is one more than those behind it
-  pub hashes-more : place < length bytes → get_or bytes place 0 ≡ hash_byte → hashes_in (drop place bytes) ≡ suc (hashes_in (drop (place + 1) bytes))
+  pub hashes_more : place < length bytes → get_or bytes place 0 ≡ hash_byte → hashes_in (drop place bytes) ≡ suc (hashes_in (drop (place + 1) bytes))
   unfolding hashes_in
-  hashes-more h e = rw (add-one place, drop-cons bytes place 0 h, eq-eqb (get_or bytes place 0) hash_byte e)
+  hashes_more h e = rw (add-one place, drop-cons bytes place 0 h, eq-eqb (get_or bytes place 0) hash_byte e)
 
   -- another byte ends them
-  pub hashes-other : place < length bytes → (get_or bytes place 0 ≡ hash_byte → ⊥) → hashes_in (drop place bytes) ≡ 0
+  pub hashes_other : place < length bytes → (get_or bytes place 0 ≡ hash_byte → ⊥) → hashes_in (drop place bytes) ≡ 0
   unfolding hashes_in
-  hashes-other h e = rw (drop-cons bytes place 0 h, ne_eqb (get_or bytes place 0) hash_byte e)
+  hashes_other h e = rw (drop-cons bytes place 0 h, ne_eqb (get_or bytes place 0) hash_byte e)
 
 -- a # behind a # leads nowhere else
 hash_again : (s : State) → next_state (next_state s hash_byte) hash_byte ≡ next_state s hash_byte
@@ -103,7 +103,7 @@ hash_there bytes place h some = go (key (get_or bytes place 0) hash_byte)
   where
     go : (get_or bytes place 0 ≡ hash_byte) ⊎ (eqb (get_or bytes place 0) hash_byte ≡ false) → get_or bytes place 0 ≡ hash_byte
     go (inl e) = e
-    go (inr n) = absurd (omega (arith, hashes-other bytes place h (eqb-false _ _ n)))
+    go (inr n) = absurd (omega (arith, hashes_other bytes place h (eqb-false _ _ n)))
 
 -- the # signs that bytes begin with are within them
 hashes_inside : (bytes : List ℕ) → hashes_in bytes ≤ length bytes
@@ -131,22 +131,22 @@ count_alone false n i e = omega arith
 
 module _ {bytes : List ℕ} {t : State} {i f : ℕ} (p : i ≡ counted (integer_hash t) 0) (q : f ≡ counted (fraction_hash t) 0) where
   -- so many # signs further
-  reading-hashes : (k : ℕ) {s : State} {before behind n : ℕ} → Reading bytes s before behind n → n < length bytes
+  reading_hashes : (k : ℕ) {s : State} {before behind n : ℕ} → Reading bytes s before behind n → n < length bytes
       → k < hashes_in (drop n bytes) → t ≡ next_state s hash_byte
       → Reading bytes t (before + pick (integer_hash t) (suc k) 0) (behind + pick (fraction_hash t) (suc k) 0) (n + suc k)
-  reading-hashes zero {s} {before} {behind} {n} r h l e =
+  reading_hashes zero {s} {before} {behind} {n} r h l e =
       let there = hash_there bytes n h (omega arith) in
       reading_as (reading_turns r h (e ∙ ap (next_state s) (sym there)) p q)
       (count_alone (integer_hash t) before i p)
       (count_alone (fraction_hash t) behind f q)
       refl
-  reading-hashes (suc k) {s} {before} {behind} {n} r h l e =
+  reading_hashes (suc k) {s} {before} {behind} {n} r h l e =
       let there = hash_there bytes n h (omega arith) in
       let next = reading_turns r h (e ∙ ap (next_state s) (sym there)) p q in
-      let more = hashes-more bytes n h there in
+      let more = hashes_more bytes n h there in
       let stays : t ≡ next_state t hash_byte = e ∙ sym (hash_again s) ∙ ap (λ (x : State). next_state x hash_byte) (sym e) in
       let room : n + 1 < length bytes = omega (arith, hashes_inside (drop n bytes), length-drop n bytes) in
-      reading_as (reading-hashes k next room (omega (arith, more)) stays)
+      reading_as (reading_hashes k next room (omega (arith, more)) stays)
       (count_run (integer_hash t) before (suc k) i p)
       (count_run (fraction_hash t) behind (suc k) f q)
       (omega arith)
@@ -183,7 +183,7 @@ module _ {bytes : List ℕ} {s t : State} {before behind n k i f : ℕ} (r : Rea
       run zero w l some = absurd (some refl)
       run (suc m) w l some =
           let there = hash_there bytes n h (omega arith) in
-          rw w (reading-hashes p q m r h (omega arith) (e ∙ ap (next_state s) there))
+          rw w (reading_hashes p q m r h (omega arith) (e ∙ ap (next_state s) there))
 
       go : (hashes_in (drop n bytes) ≡ 0) ⊎ (hashes_in (drop n bytes) ≡ 0 → ⊥)
           → Reading bytes t (before + pick (integer_hash t) k 0) (behind + pick (fraction_hash t) k 0) (n + k)
@@ -191,23 +191,23 @@ module _ {bytes : List ℕ} {s t : State} {before behind n k i f : ℕ} (r : Rea
       go (inr some) = run (hashes_in (drop n bytes)) (z ∙ step_hashes (drop n bytes) some) refl some
 
   -- one step further
-  pub reading-steps : Reading bytes t (before + k * i) (behind + k * f) (n + k)
-  reading-steps =
+  pub reading_steps : Reading bytes t (before + k * i) (behind + k * f) (n + k)
+  reading_steps =
       reading_as picked (ap (λ (x : ℕ). before + x) (sym (step_count (integer_hash t) k i p)))
       (ap (λ (x : ℕ). behind + x) (sym (step_count (fraction_hash t) k f q)))
       refl
 
   -- a step goes on
-  pub step-some : 0 < k
-  step-some = go (zero_or_not (hashes_in (drop n bytes)))
+  pub step_some : 0 < k
+  step_some = go (zero_or_not (hashes_in (drop n bytes)))
     where
       go : (hashes_in (drop n bytes) ≡ 0) ⊎ (hashes_in (drop n bytes) ≡ 0 → ⊥) → 0 < k
       go (inl none) = omega (arith, step_one (drop n bytes) none)
       go (inr some) = omega (arith, step_hashes (drop n bytes) some)
 
   -- and what it adds is no more than its bytes
-  pub step-few : k * i + k * f ≤ k
-  step-few = omega (arith, step_count (integer_hash t) k i p, step_count (fraction_hash t) k f q, both t k)
+  pub step_few : k * i + k * f ≤ k
+  step_few = omega (arith, step_count (integer_hash t) k i p, step_count (fraction_hash t) k f q, both t k)
     where
       both : (u : State) (m : ℕ) → pick (integer_hash u) m 0 + pick (fraction_hash u) m 0 ≤ m
       both Start m = omega arith

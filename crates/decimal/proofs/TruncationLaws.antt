@@ -14,57 +14,57 @@ use Rattle.decimal.specs.Truncation.{is_signed, exceeds, exponent_outside, store
 use Rattle.decimal.proofs.PowerLaws.{pow10_pos}
 use Rattle.decimal.proofs.DigitLaws.{le_or_lt}
 use Rattle.decimal.proofs.ImageLaws.{check_within, check_image_done}
-use Rattle.decimal.proofs.ScaleLaws.{scaled-reaches, scaled-within}
-use Rattle.decimal.proofs.NumberLaws.{InRange, normal_range, check-normal, check-abnormal}
+use Rattle.decimal.proofs.ScaleLaws.{scaled_reaches, scaled_within}
+use Rattle.decimal.proofs.NumberLaws.{InRange, normal_range, check_normal, check_abnormal}
 
 -- When a truncation is refused, and when not.
 
 module _ (place : ℕ) (im : Image) (n : Number) where
   -- an image that is refused
-  pub truncation-image-refused :
+  pub truncation_image_refused :
       {number at_place : ℕ} → check_image place im ≡ refused number at_place → truncation place im n ≡ refused number at_place
   unfolding truncation ◌then◌
-  truncation-image-refused h = rw h
+  truncation_image_refused h = rw h
 
   -- an exponent outside its limits
-  pub limited-exponent : im.exponential ≡ true → exponent_outside im n ≡ true → limited place im n ≡ refused 5 place
+  pub limited_exponent : im.exponential ≡ true → exponent_outside im n ≡ true → limited place im n ≡ refused 5 place
   unfolding limited exponent_outside
-  limited-exponent kind h = rw (kind, h)
+  limited_exponent kind h = rw (kind, h)
 
   -- a number that exceeds its image
-  pub limited-exceeds : im.exponential ≡ false → exceeds im n ≡ true → limited place im n ≡ refused 4 place
+  pub limited_exceeds : im.exponential ≡ false → exceeds im n ≡ true → limited place im n ≡ refused 4 place
   unfolding limited exceeds
-  limited-exceeds kind h = rw (kind, h)
+  limited_exceeds kind h = rw (kind, h)
 
   -- an exponent within its limits
-  pub limited-inside : im.exponential ≡ true → exponent_outside im n ≡ false → limited place im n ≡ done (truncated_to im n)
+  pub limited_inside : im.exponential ≡ true → exponent_outside im n ≡ false → limited place im n ≡ done (truncated_to im n)
   unfolding limited exponent_outside
-  limited-inside kind h = rw (kind, h)
+  limited_inside kind h = rw (kind, h)
 
   -- a number that does not exceed its image
-  pub limited-below : im.exponential ≡ false → exceeds im n ≡ false → limited place im n ≡ done (truncated_to im n)
+  pub limited_below : im.exponential ≡ false → exceeds im n ≡ false → limited place im n ≡ done (truncated_to im n)
   unfolding limited exceeds
-  limited-below kind h = rw (kind, h)
+  limited_below kind h = rw (kind, h)
 
   -- any number within its image's limits is truncated
-  limited-within : pick im.exponential (exponent_outside im n) (exceeds im n) ≡ false → limited place im n ≡ done (truncated_to im n)
-  limited-within h = go im.exponential refl h
+  limited_within : pick im.exponential (exponent_outside im n) (exceeds im n) ≡ false → limited place im n ≡ done (truncated_to im n)
+  limited_within h = go im.exponential refl h
     where
       go : (b : Bool) → im.exponential ≡ b → pick b (exponent_outside im n) (exceeds im n) ≡ false → limited place im n ≡ done (truncated_to im n)
-      go true kind e = limited-inside kind e
-      go false kind e = limited-below kind e
+      go true kind e = limited_inside kind e
+      go false kind e = limited_below kind e
 
   module _ {j : Image} (checked : check_image place im ≡ done j) where
     -- a number not in normal form
     pub truncation-abnormal : normal n ≡ false → truncation place im n ≡ refused 3 place
     unfolding truncation ◌then◌
-    truncation-abnormal h = rw (checked, check-abnormal n place h)
+    truncation-abnormal h = rw (checked, check_abnormal n place h)
 
     module _ (is_normal : normal n ≡ true) where
       -- a number in normal form is refused by its limits alone
       pub truncation-limited : truncation place im n ≡ limited place im n
       unfolding truncation ◌then◌
-      truncation-limited = rw (checked, check-normal n place is_normal)
+      truncation-limited = rw (checked, check_normal n place is_normal)
 
       -- a number within its image's limits fits
       pub within-fits : pick im.exponential (exponent_outside im n) (exceeds im n) ≡ false → Fit im n
@@ -73,20 +73,20 @@ module _ (place : ℕ) (im : Image) (n : Number) where
           record { nonempty = sized.1; size = sized.2; number_checked = is_normal; within = h }
 
   -- a number that fits is truncated
-  pub fit-truncation : Fit im n → truncation place im n ≡ done (truncated_to im n)
-  fit-truncation fit =
-      truncation-limited (check_within place im fit.nonempty fit.size) fit.number_checked ∙ limited-within fit.within
+  pub fit_truncation : Fit im n → truncation place im n ≡ done (truncated_to im n)
+  fit_truncation fit =
+      truncation-limited (check_within place im fit.nonempty fit.size) fit.number_checked ∙ limited_within fit.within
 
   -- only a number that fits is truncated
-  pub truncation-fit : {t : Truncated} → truncation place im n ≡ done t → Fit im n
-  truncation-fit {t} h = image-case (check_image place im) refl
+  pub truncation_fit : {t : Truncated} → truncation place im n ≡ done t → Fit im n
+  truncation_fit {t} h = image-case (check_image place im) refl
     where
       never : {number at_place : ℕ} → truncation place im n ≡ refused number at_place → Fit im n
       never e = absurd (let z : ◌≡◌ {A = ℕ} 0 1 = cc in omega arith)
 
       limits : {j : Image} → check_image place im ≡ done j → normal n ≡ true → (b : Bool) → im.exponential ≡ b → (o : Bool) → pick b (exponent_outside im n) (exceeds im n) ≡ o → Fit im n
-      limits c e true kind true o = never (truncation-limited c e ∙ limited-exponent kind o)
-      limits c e false kind true o = never (truncation-limited c e ∙ limited-exceeds kind o)
+      limits c e true kind true o = never (truncation-limited c e ∙ limited_exponent kind o)
+      limits c e false kind true o = never (truncation-limited c e ∙ limited_exceeds kind o)
       limits c e b kind false o = within-fits c e (subst⁻¹ (λ (k : Bool). pick k (exponent_outside im n) (exceeds im n) ≡ false) kind o)
 
       number-case : {j : Image} → check_image place im ≡ done j → (b : Bool) → normal n ≡ b → Fit im n
@@ -95,25 +95,25 @@ module _ (place : ℕ) (im : Image) (n : Number) where
 
       image-case : (a : Answer Image) → check_image place im ≡ a → Fit im n
       image-case (done j) e = number-case e (normal n) refl
-      image-case (refused number at_place) e = never (truncation-image-refused e)
+      image-case (refused number at_place) e = never (truncation_image_refused e)
 
   -- and it is truncated so
-  pub truncation-done : {t : Truncated} → truncation place im n ≡ done t → t ≡ truncated_to im n
-  truncation-done h = let e = fit-truncation (truncation-fit h) in cc
+  pub truncation_done : {t : Truncated} → truncation place im n ≡ done t → t ≡ truncated_to im n
+  truncation_done h = let e = fit_truncation (truncation_fit h) in cc
 
 -- Packing.
 
 module _ (place : ℕ) (im : Image) (n : Number) where
   -- what truncation refuses, packing refuses
-  pub packed-refused :
+  pub packed_refused :
       {number at_place : ℕ} → truncation place im n ≡ refused number at_place → packed_truncation place im n ≡ refused number at_place
   unfolding packed_truncation ◌then◌
-  packed-refused h = rw h
+  packed_refused h = rw h
 
   module _ (fit : Fit im n) where
     packed-then : packed_truncation place im n ≡ packable place im (truncated_to im n)
     unfolding packed_truncation ◌then◌
-    packed-then = rw (fit-truncation place im n fit)
+    packed-then = rw (fit_truncation place im n fit)
 
     -- an image with a sign refuses no more
     pub packed-signed : is_signed im.sign ≡ true → packed_truncation place im n ≡ done (truncated_to im n)
@@ -134,33 +134,33 @@ module _ (place : ℕ) (im : Image) (n : Number) where
 
 module _ (im : Image) where
   -- zero never exceeds
-  pub exceeds-zero : exceeds im zero_number ≡ false
+  pub exceeds_zero : exceeds im zero_number ≡ false
   unfolding exceeds magnitude
-  exceeds-zero =
+  exceeds_zero =
       rw (zero-mul (10 ^ exponent_limit), zero-mul (10 ^ im.fraction), zero-div unit) (lt-leb (10 ^ hashes im) 0 (pow10_pos (hashes im)))
 
   -- a nonzero number exceeds the image when it has more than i digits before the point
-  pub exceeds-range : (n : Number) → InRange n → exceeds im n ≡ ltb im.integer (n.exponent + 1 - exponent_limit)
+  pub exceeds_range : (n : Number) → InRange n → exceeds im n ≡ ltb im.integer (n.exponent + 1 - exponent_limit)
   unfolding exceeds magnitude
-  exceeds-range n r = go (ltb im.integer (n.exponent + 1 - exponent_limit)) refl
+  exceeds_range n r = go (ltb im.integer (n.exponent + 1 - exponent_limit)) refl
     where
       go : (b : Bool)
           → ltb im.integer (n.exponent + 1 - exponent_limit) ≡ b
           → leb (10 ^ hashes im) (n.mantissa * 10 ^ n.exponent * 10 ^ im.fraction / unit) ≡ b
       go true e =
           let h : exponent_limit + im.integer ≤ n.exponent = omega (arith, ltb-true im.integer (n.exponent + 1 - exponent_limit) e) in
-          le-leb (10 ^ hashes im) _ (scaled-reaches (precision - 1) exponent_limit n.mantissa n.exponent im.fraction im.integer r.low h)
+          le-leb (10 ^ hashes im) _ (scaled_reaches (precision - 1) exponent_limit n.mantissa n.exponent im.fraction im.integer r.low h)
       go false e =
           let h : n.exponent < exponent_limit + im.integer = omega (arith, ltb-false im.integer (n.exponent + 1 - exponent_limit) e) in
-          lt-leb (10 ^ hashes im) _ (scaled-within (precision - 1) exponent_limit n.mantissa n.exponent im.fraction im.integer r.high h)
+          lt-leb (10 ^ hashes im) _ (scaled_within (precision - 1) exponent_limit n.mantissa n.exponent im.fraction im.integer r.high h)
 
 -- The parts of a truncation, case by case.
 
 module _ (im : Image) (n : Number) where
   -- the stored exponent of zero is never outside
-  pub outside-zero : n.mantissa ≡ 0 → exponent_outside im n ≡ false
+  pub outside_zero : n.mantissa ≡ 0 → exponent_outside im n ≡ false
   unfolding exponent_outside
-  outside-zero z = rw (eq-eqb n.mantissa 0 z)
+  outside_zero z = rw (eq-eqb n.mantissa 0 z)
 
   -- x below its limit
   pub outside_below : (n.mantissa ≡ 0 → ⊥) → n.exponent + 1 < im.integer → exponent_outside im n ≡ true
@@ -176,56 +176,56 @@ module _ (im : Image) (n : Number) where
   outside_above nz h = rw (ne_eqb n.mantissa 0 nz, le-ltb (n.exponent + 1) im.integer h)
 
   -- x not outside
-  pub outside-not :
+  pub outside_not :
       (n.mantissa ≡ 0 → ⊥)
       → exponent_outside im n ≡ false
       → (im.integer ≤ n.exponent + 1) × (n.exponent + 1 - im.integer ≤ 2 * exponent_limit)
-  outside-not nz h =
+  outside_not nz h =
       ⊎_elim
       (λ le. (le, ltb-false (2 * exponent_limit) (n.exponent + 1 - im.integer) (sym (outside_above nz le) ∙ h)))
       (λ lt. absurd (let z : ◌≡◌ {A = Bool} true false = sym (outside_below nz lt) ∙ h in let e : ◌≡◌ {A = ℕ} 0 1 = cc in omega arith))
       (le_or_lt im.integer (n.exponent + 1))
 
   -- so it is with the exponent of a number that fits an exponential image
-  pub fit-exponential :
+  pub fit_exponential :
       Fit im n
       → im.exponential ≡ true
       → (n.mantissa ≡ 0 → ⊥)
       → (im.integer ≤ n.exponent + 1) × (n.exponent + 1 - im.integer ≤ 2 * exponent_limit)
-  fit-exponential fit kind nz =
-      outside-not nz (subst (λ (b : Bool). pick b (exponent_outside im n) (exceeds im n) ≡ false) kind fit.within)
+  fit_exponential fit kind nz =
+      outside_not nz (subst (λ (b : Bool). pick b (exponent_outside im n) (exceeds im n) ≡ false) kind fit.within)
 
   -- a number that fits a fixed-point image has at most i digits before the point
-  pub fit-fixed : Fit im n → im.exponential ≡ false → (n.mantissa ≡ 0 → ⊥) → n.exponent < exponent_limit + im.integer
-  fit-fixed fit kind nz =
+  pub fit_fixed : Fit im n → im.exponential ≡ false → (n.mantissa ≡ 0 → ⊥) → n.exponent < exponent_limit + im.integer
+  fit_fixed fit kind nz =
       let within : exceeds im n ≡ false = subst (λ (b : Bool). pick b (exponent_outside im n) (exceeds im n) ≡ false) kind fit.within in
       let range = normal_range n fit.number_checked nz in
-      omega (arith, ltb-false im.integer (n.exponent + 1 - exponent_limit) (sym (exceeds-range im n range) ∙ within))
+      omega (arith, ltb-false im.integer (n.exponent + 1 - exponent_limit) (sym (exceeds_range im n range) ∙ within))
 
   -- zero has x = 0
-  pub stored-zero : n.mantissa ≡ 0 → stored_exponent im n ≡ exponent_limit
+  pub stored_zero : n.mantissa ≡ 0 → stored_exponent im n ≡ exponent_limit
   unfolding stored_exponent
-  stored-zero z = rw (eq-eqb n.mantissa 0 z)
+  stored_zero z = rw (eq-eqb n.mantissa 0 z)
 
   -- exponential: any other number has x = e − i + 1
-  pub stored-exponential : (n.mantissa ≡ 0 → ⊥) → im.exponential ≡ true → stored_exponent im n ≡ n.exponent + 1 - im.integer
+  pub stored_exponential : (n.mantissa ≡ 0 → ⊥) → im.exponential ≡ true → stored_exponent im n ≡ n.exponent + 1 - im.integer
   unfolding stored_exponent
-  stored-exponential nz kind = rw (ne_eqb n.mantissa 0 nz, kind)
+  stored_exponential nz kind = rw (ne_eqb n.mantissa 0 nz, kind)
 
   -- fixed point stores no exponent
-  pub stored-fixed : (n.mantissa ≡ 0 → ⊥) → im.exponential ≡ false → stored_exponent im n ≡ exponent_limit
+  pub stored_fixed : (n.mantissa ≡ 0 → ⊥) → im.exponential ≡ false → stored_exponent im n ≡ exponent_limit
   unfolding stored_exponent
-  stored-fixed nz kind = rw (ne_eqb n.mantissa 0 nz, kind)
+  stored_fixed nz kind = rw (ne_eqb n.mantissa 0 nz, kind)
 
   -- of zero no digit is kept
-  pub kept-zero : n.mantissa ≡ 0 → kept_count im n ≡ 0
+  pub kept_zero : n.mantissa ≡ 0 → kept_count im n ≡ 0
   unfolding kept_count
-  kept-zero z = rw (eq-eqb n.mantissa 0 z)
+  kept_zero z = rw (eq-eqb n.mantissa 0 z)
 
   -- exponential: n digits
-  pub kept-exponential : (n.mantissa ≡ 0 → ⊥) → im.exponential ≡ true → kept_count im n ≡ hashes im
+  pub kept_exponential : (n.mantissa ≡ 0 → ⊥) → im.exponential ≡ true → kept_count im n ≡ hashes im
   unfolding kept_count
-  kept-exponential nz kind = rw (ne_eqb n.mantissa 0 nz, kind)
+  kept_exponential nz kind = rw (ne_eqb n.mantissa 0 nz, kind)
 
   -- fixed point: those up to the image's last place
   pub kept_fixed : (n.mantissa ≡ 0 → ⊥) → im.exponential ≡ false → kept_count im n ≡ n.exponent + im.fraction + 1 - exponent_limit
@@ -235,26 +235,26 @@ module _ (im : Image) (n : Number) where
 -- Two nonzero numbers of one exponent are treated alike.
 
 module _ (im : Image) (a b : Number) (in-a : InRange a) (in_b : InRange b) (same : a.exponent ≡ b.exponent) where
-  nonzero-a : eqb a.mantissa 0 ≡ false
-  nonzero-a = ne_eqb a.mantissa 0 (omega (arith, in-a.low))
+  nonzero_a : eqb a.mantissa 0 ≡ false
+  nonzero_a = ne_eqb a.mantissa 0 (omega (arith, in-a.low))
 
-  nonzero-b : eqb b.mantissa 0 ≡ false
-  nonzero-b = ne_eqb b.mantissa 0 (omega (arith, in_b.low))
+  nonzero_b : eqb b.mantissa 0 ≡ false
+  nonzero_b = ne_eqb b.mantissa 0 (omega (arith, in_b.low))
 
-  pub same-exceeds : exceeds im a ≡ exceeds im b
-  same-exceeds =
-      exceeds-range im a in-a
+  pub same_exceeds : exceeds im a ≡ exceeds im b
+  same_exceeds =
+      exceeds_range im a in-a
       ∙ ap (λ (e : ℕ). ltb im.integer (e + 1 - exponent_limit)) same
-      ∙ sym (exceeds-range im b in_b)
+      ∙ sym (exceeds_range im b in_b)
 
-  pub same-outside : exponent_outside im a ≡ exponent_outside im b
+  pub same_outside : exponent_outside im a ≡ exponent_outside im b
   unfolding exponent_outside
-  same-outside = rw (nonzero-a, nonzero-b, same)
+  same_outside = rw (nonzero_a, nonzero_b, same)
 
-  pub same-stored : stored_exponent im a ≡ stored_exponent im b
+  pub same_stored : stored_exponent im a ≡ stored_exponent im b
   unfolding stored_exponent
-  same-stored = rw (nonzero-a, nonzero-b, same)
+  same_stored = rw (nonzero_a, nonzero_b, same)
 
   pub same_kept : kept_count im a ≡ kept_count im b
   unfolding kept_count
-  same_kept = rw (nonzero-a, nonzero-b, same)
+  same_kept = rw (nonzero_a, nonzero_b, same)

@@ -8,7 +8,7 @@ use crate::number::{NOT_NORMAL, Number};
 use crate::refusal::Refusal;
 
 // The order of two values: the first is less, equal or greater.
-#[derive(Drop)]
+#[derive(Clone, Copy)]
 pub enum Order {
     Less,
     Equal,
@@ -16,7 +16,7 @@ pub enum Order {
 }
 
 // An order, or why there is none.
-#[derive(Drop)]
+#[derive(Clone, Copy)]
 pub enum OrderAnswer {
     Order(Order),
     Refused(Refusal),

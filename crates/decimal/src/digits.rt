@@ -11,7 +11,7 @@ pub const PRECISION: usize = 13;
 const HALF_RANGE: u64 = 1 << 63;
 
 // A digit so far: how many times a power of ten was taken off a whole number, what is left, and how many subtractions were made.
-#[derive(Drop)]
+#[derive(Clone, Copy)]
 struct Taken {
     digit: u64,
     rest: u64,

@@ -32,7 +32,7 @@ pub const NOT_AN_IMAGE: u8 = 1;
 pub const TOO_MANY_DIGITS: u8 = 2;
 
 // The sign that an image begins with, if any.
-#[derive(Drop)]
+#[derive(Clone, Copy)]
 pub enum Sign {
     Unsigned,
     Plus,
@@ -40,7 +40,7 @@ pub enum Sign {
 }
 
 // An image: its sign, the counts of # before and after the point (document 01's i and f), and whether it is exponential.
-#[derive(Drop)]
+#[derive(Clone, Copy)]
 pub struct Image {
     pub sign: Sign,
     pub integer: u8,
@@ -49,14 +49,14 @@ pub struct Image {
 }
 
 // An image, or why the bytes are no image.
-#[derive(Drop)]
+#[derive(Clone, Copy)]
 pub enum ImageAnswer {
     Image(Image),
     Refused(Refusal),
 }
 
 // What was read of a field, from its first byte.
-#[derive(Drop)]
+#[derive(Clone, Copy)]
 pub enum State {
     // Nothing.
     Start,
@@ -89,7 +89,7 @@ pub enum State {
 }
 
 // What was read of bytes: the last state, and the counts of # before and behind the point.
-#[derive(Drop)]
+#[derive(Clone, Copy)]
 struct Scan {
     state: State,
     integer: usize,

@@ -1,4 +1,6 @@
 // Layer 1: decimal numbers and # images (document 01: Numbers, Images). An upper layer uses the names below and what they promise.
+#![tactic(auto)]
+
 mod comparison;
 mod digits;
 mod image;

@@ -43,7 +43,7 @@ const MANTISSA_END: u64 = 10 * MANTISSA_LOW;
 
 // A number: sign, mantissa and exponent. The field exponent holds e + EXPONENT_LIMIT, where e is document 01's exponent.
 // The magnitude is mantissa * 10^(e - (PRECISION - 1)).
-#[derive(Drop)]
+#[derive(Clone, Copy)]
 pub struct Number {
     pub negative: bool,
     pub mantissa: u64,
@@ -51,7 +51,7 @@ pub struct Number {
 }
 
 // A number, or why there is none.
-#[derive(Drop)]
+#[derive(Clone, Copy)]
 pub enum NumberAnswer {
     Number(Number),
     Refused(Refusal),
@@ -182,7 +182,7 @@ fn refused(number: u8, place: usize) -> NumberAnswer
 }
 
 // A whole number multiplied by a power of ten: the product, and the exponent of that power.
-#[derive(Drop)]
+#[derive(Clone, Copy)]
 struct Shifted {
     mantissa: u64,
     zeros: usize,

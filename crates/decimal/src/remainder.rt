@@ -12,14 +12,14 @@ use crate::truncation::{fit, kept_count};
 
 // The exact remainder of a number under an image: truncated magnitude plus r * 10^power is the magnitude. The field whole holds document
 // 02's r, which is below 10^PRECISION; the field power holds power + SCALE, where power is e - (PRECISION - 1).
-#[derive(Drop)]
+#[derive(Clone, Copy)]
 pub struct Remainder {
     pub whole: u64,
     pub power: usize,
 }
 
 // A remainder, or why there is none.
-#[derive(Drop)]
+#[derive(Clone, Copy)]
 pub enum RemainderAnswer {
     Remainder(Remainder),
     Refused(Refusal),

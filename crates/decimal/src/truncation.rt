@@ -31,7 +31,7 @@ pub const EXCEEDS: u8 = 4;
 // A number truncated under an image. The field x holds x + EXPONENT_LIMIT, where x is document 01's stored exponent; in fixed point x is 0.
 // The image's n digits are the last n half bytes of halves, the first digit highest. Where the answer is a refusal the truncation is that
 // of zero.
-#[derive(Drop)]
+#[derive(Clone, Copy)]
 pub struct Truncation {
     pub answer: CheckAnswer,
     pub negative: bool,

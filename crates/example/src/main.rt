@@ -1,4 +1,6 @@
 // Makes a record file of three positions that one single float can't tell apart, and writes it to standard output.
+#![tactic(auto)]
+
 use codec::{Numbers, WriteAnswer};
 use decimal::{Number, NumberAnswer};
 use records::AddAnswer;

@@ -1,5 +1,7 @@
 // Prints the listing of the record file on standard input, or its refusal (document 01: Record file). Where reading fails nothing of a
 // listing is printed, and standard error tells it; a failed write is told there too.
+#![tactic(auto)]
+
 use console::Input;
 
 // One byte more than a file may have, so that a longer one is seen.

@@ -31,12 +31,12 @@ field_length_lem texts left e h =
 
 module _ (texts line : List ℕ) (some : length (literals line) < length line) where
   -- with a field ahead, where the bound holds of the elements behind the first
-  bound-field : (e : Element) (es : List Element)
+  bound_field : (e : Element) (es : List Element)
       → ((l : List ℕ) → length (print_from texts line l es).bytes ≤ length l + length es * (length line + 1))
       → (left : List ℕ)
       → length (literals left) < length left
       → length (print_from texts line left (e ∷ es)).bytes ≤ length left + length es * (length line + 1)
-  bound-field e es rest left h =
+  bound_field e es rest left h =
       let f : List ℕ = from_field left in
       let n = from_field_lem left h in
       let b : List ℕ = drop (field_length f) f in
@@ -55,18 +55,18 @@ module _ (texts line : List ℕ) (some : length (literals line) < length line) w
       )
 
   -- one element more
-  bound-one : (e : Element) (es : List Element)
+  bound_one : (e : Element) (es : List Element)
       → ((l : List ℕ) → length (print_from texts line l es).bytes ≤ length l + length es * (length line + 1))
       → (left : List ℕ)
       → length (print_from texts line left (e ∷ es)).bytes ≤ length left + length (e ∷ es) * (length line + 1)
-  bound-one e es rest left = ⊎_elim ends goes (le_or_lt (length left) (length (literals left)))
+  bound_one e es rest left = ⊎_elim ends goes (le_or_lt (length left) (length (literals left)))
     where
       all : suc (length es) * (length line + 1) ≡ length line + 1 + length es * (length line + 1)
       all = omega (arith, add-mul 1 (length es) (length line + 1))
 
       goes : length (literals left) < length left
           → length (print_from texts line left (e ∷ es)).bytes ≤ length left + length (e ∷ es) * (length line + 1)
-      goes h = omega (arith, bound-field e es rest left h, all)
+      goes h = omega (arith, bound_field e es rest left h, all)
 
       ends : length left ≤ length (literals left)
           → length (print_from texts line left (e ∷ es)).bytes ≤ length left + length (e ∷ es) * (length line + 1)
@@ -82,14 +82,14 @@ module _ (texts line : List ℕ) (some : length (literals line) < length line) w
           }) in
           let two : length (print_from texts line [] (e ∷ es)).bytes ≡ 1 + length (print_from texts line line (e ∷ es)).bytes =
           step_length_lem (record { step_is = print_again texts line e es some }) in
-          omega (arith, ap length w, bound-field e es rest line some, all)
+          omega (arith, ap length w, bound_field e es rest line some, all)
 
   -- from any part of a line on
-  pub bound-from : (es : List Element) (left : List ℕ)
+  pub bound_from : (es : List Element) (left : List ℕ)
       → length (print_from texts line left es).bytes ≤ length left + length es * (length line + 1)
   unfolding print_from
-  bound-from [] left = omega (arith, (literals_front left).0)
-  bound-from (e ∷ es) left = bound-one e es (bound-from es) left
+  bound_from [] left = omega (arith, (literals_front left).0)
+  bound_from (e ∷ es) left = bound_one e es (bound_from es) left
 
 -- a line that can be measured has a field, if there are elements
 pub ready_field : (line : List ℕ) (es : List Element) → LineReady line es → 0 < length es → length (literals line) < length line
@@ -111,7 +111,7 @@ print_forecast texts line [] r = omega (arith, (literals_front line).0)
 print_forecast texts line (e ∷ es) r =
     omega (
       arith,
-      bound-from texts line (ready_field line (e ∷ es) r (omega arith)) (e ∷ es) line,
+      bound_from texts line (ready_field line (e ∷ es) r (omega arith)) (e ∷ es) line,
       add-mul (length (e ∷ es)) 1 (length line + 1),
     )
 

@@ -22,7 +22,7 @@ use Rattle.decimal.proofs.DigitLaws.{le_or_lt}
 use Rattle.decimal.proofs.BoolLaws.{zero_or_not}
 use Rattle.decimal.proofs.ImageLaws.{hash_once}
 use Rattle.decimal.proofs.AnswerLaws.{then_last, then_next, then_refused}
-use Rattle.codec.proofs.ListLaws.{filled-length, filled_at}
+use Rattle.codec.proofs.ListLaws.{filled_length, filled_at}
 use Rattle.records.specs.declared.fields.Element.{Element}
 use Rattle.records.specs.declared.fields.Element.TheVariants as element
 use Rattle.records.specs.Scanning.{field_length, longest_from}
@@ -241,7 +241,7 @@ reached_next {line} {k} r = reached_over (length (literals (drop k line))) r ref
 -- the list of an array has as many elements as are counted
 pub element_count : (elements : List Element) (count : ℕ) → length (element_list elements count) ≡ count
 unfolding element_list
-element_count elements count = filled-length (element.Number zero_number) count elements
+element_count elements count = filled_length (element.Number zero_number) count elements
 
 -- elements do not depend on what stands for those behind the end
 get_d_any : (es : List Element) (i : ℕ) (d e : Element) → i < length es → get_or es i d ≡ get_or es i e
@@ -372,15 +372,15 @@ counts_long count size h l = rw (le-leb count max_elements h, lt-leb size max_li
 
 module _ (line : List ℕ) (es : List Element) (room : ℕ) where
   -- refused for its counts
-  pub line-counts : {number place : ℕ} → check_counts (length es) (length line) ≡ refused number place → line_checks line es room ≡ refused number place
+  pub line_counts : {number place : ℕ} → check_counts (length es) (length line) ≡ refused number place → line_checks line es room ≡ refused number place
   unfolding line_checks
-  line-counts h = then_refused _ h
+  line_counts h = then_refused _ h
 
   -- refused for a field
-  pub line-fields : {number place : ℕ} → check_counts (length es) (length line) ≡ done tt → check_fields 0 0 line ≡ refused number place
+  pub line_fields_lem : {number place : ℕ} → check_counts (length es) (length line) ≡ done tt → check_fields 0 0 line ≡ refused number place
       → line_checks line es room ≡ refused number place
   unfolding line_checks
-  line-fields h f = then_next _ h ∙ then_refused _ f
+  line_fields_lem h f = then_next _ h ∙ then_refused _ f
 
   -- refused for want of a field
   pub line_some : {number place : ℕ} → check_counts (length es) (length line) ≡ done tt → check_fields 0 0 line ≡ done tt
@@ -389,10 +389,10 @@ module _ (line : List ℕ) (es : List Element) (room : ℕ) where
   line_some h f g = then_next _ h ∙ then_next _ f ∙ then_refused _ g
 
   -- else as its elements
-  pub line-elements : check_counts (length es) (length line) ≡ done tt → check_fields 0 0 line ≡ done tt → check_some line es ≡ done tt
+  pub line_elements : check_counts (length es) (length line) ≡ done tt → check_fields 0 0 line ≡ done tt → check_some line es ≡ done tt
       → line_checks line es room ≡ check_elements room 0 es
   unfolding line_checks
-  line-elements h f g = then_next _ h ∙ then_next _ f ∙ then_next _ g
+  line_elements h f g = then_next _ h ∙ then_next _ f ∙ then_next _ g
 
 -- checks one after the other
 then_again : {A : Type 0} (r s : Answer (Unit {0})) (f : Answer A) → (r then λ _. (s then λ _. f)) ≡ ((r then λ _. s) then λ _. f)

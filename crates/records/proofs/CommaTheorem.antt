@@ -29,10 +29,10 @@ use Rattle.records.specs.Fields.{number_marked, number_in, hash_count}
 use Rattle.records.specs.FieldRule.{hidden_digits, without_commas, rule_byte, has_digit, rule_bytes}
 use Rattle.records.proofs.FieldTheorem.{field_image_lem}
 use Rattle.records.proofs.FieldLaws.{exponential_image}
-use Rattle.records.proofs.MarkLaws.{document_valid, decimal-digits}
+use Rattle.records.proofs.MarkLaws.{document_valid, decimal_digits}
 use Rattle.records.proofs.FillLaws.{Body, runs_body, times_body}
 use Rattle.records.proofs.FieldBackTheorem.{field_image, in_field}
-use Rattle.records.proofs.FieldRuleTheorem.{ruled, rule-whole, text-parts, truncation_below, fixed_bytes, without_shorter}
+use Rattle.records.proofs.FieldRuleTheorem.{ruled, rule_whole, text_parts, truncation_below, fixed_bytes, without_shorter}
 use Rattle.records.proofs.FieldRuleTheorem.{field_without_commas, bytes_by_rule, byte_by_rule}
 
 -- a mark is no digit
@@ -62,13 +62,13 @@ module _ {m : Marks} (valid : ValidMarks m) (s : ℕ) where
       pick (eqb b comma_byte) (pick (ltb s u) m.thousands m.filling) (pick (eqb b hash_byte && ltb u s) m.filling x)
 
   -- for a comma it is no digit
-  comma-none : (c : Bool) → is_digit (pick c m.thousands m.filling) ≡ false
-  comma-none true = mark_byte valid.thousands_byte
-  comma-none false = mark_byte valid.filling_byte
+  comma_none : (c : Bool) → is_digit (pick c m.thousands m.filling) ≡ false
+  comma_none true = mark_byte valid.thousands_byte
+  comma_none false = mark_byte valid.filling_byte
 
   -- for a # it is one where the digit is not hidden
-  hash-digit : (u x : ℕ) → is_digit x ≡ true → (ltb s u || is_digit (pick (ltb u s) m.filling x)) ≡ ltb s (u + 1)
-  hash-digit u x digit =
+  hash_digit : (u x : ℕ) → is_digit x ≡ true → (ltb s u || is_digit (pick (ltb u s) m.filling x)) ≡ ltb s (u + 1)
+  hash_digit u x digit =
       ⊎_elim
       (λ shown.
       ap (λ (c : Bool). ltb s u || is_digit (pick c m.filling x)) (le-ltb u s shown)
@@ -91,22 +91,22 @@ module _ {m : Marks} (valid : ValidMarks m) (s : ℕ) where
       go : (k h : Bool) → eqb b comma_byte ≡ k → eqb b hash_byte ≡ h → (k ≡ false → is_digit x ≡ h)
           → (ltb s u || is_digit (pick k (pick (ltb s u) m.thousands m.filling) (pick (h && ltb u s) m.filling x))) ≡ ltb s (pick h (u + 1) u)
       go true true e g fits = let z : comma_byte ≡ hash_byte = sym (eqb-true b comma_byte e) ∙ eqb-true b hash_byte g in absurd (omega arith)
-      go true false e g fits = ap (λ (c : Bool). ltb s u || c) (comma-none (ltb s u)) ∙ or_false (ltb s u)
-      go false true e g fits = hash-digit u x (fits refl)
+      go true false e g fits = ap (λ (c : Bool). ltb s u || c) (comma_none (ltb s u)) ∙ or_false (ltb s u)
+      go false true e g fits = hash_digit u x (fits refl)
       go false false e g fits = ap (λ (c : Bool). ltb s u || c) (fits refl) ∙ or_false (ltb s u)
 
   -- and so among the first bytes
-  digit-shown : (p u : ℕ) (bs text : List ℕ) → Matches bs text
+  digit_shown : (p u : ℕ) (bs text : List ℕ) → Matches bs text
       → (ltb s u || has_digit (take p (ruled m s u bs text))) ≡ ltb s (u + hash_count (take p bs))
   unfolding Matches ruled has_digit hash_count
-  digit-shown zero u bs text fits = let same : u ≡ u + 0 = omega arith in or_false (ltb s u) ∙ ap (ltb s) same
-  digit-shown (suc p) u [] text fits = let same : u ≡ u + 0 = omega arith in or_false (ltb s u) ∙ ap (ltb s) same
-  digit-shown (suc p) u (b ∷ bs) text fits =
+  digit_shown zero u bs text fits = let same : u ≡ u + 0 = omega arith in or_false (ltb s u) ∙ ap (ltb s) same
+  digit_shown (suc p) u [] text fits = let same : u ≡ u + 0 = omega arith in or_false (ltb s u) ∙ ap (ltb s) same
+  digit_shown (suc p) u (b ∷ bs) text fits =
       let next = pick (eqb b hash_byte) (u + 1) u in
       let rest = has_digit (take p (ruled m s next bs (pick (eqb b comma_byte) text (drop 1 text)))) in
       sym (or_assoc (ltb s u) (is_digit (byte_of u b (get_or text 0 0))) rest)
       ∙ ap (λ (c : Bool). c || rest) (one_byte u b (get_or text 0 0) fits.0)
-      ∙ digit-shown p next bs (pick (eqb b comma_byte) text (drop 1 text)) fits.1
+      ∙ digit_shown p next bs (pick (eqb b comma_byte) text (drop 1 text)) fits.1
       ∙ ap (ltb s) (counted (eqb b hash_byte) (hash_count (take p bs)))
     where
       counted : (h : Bool) (n : ℕ) → pick h (u + 1) u + n ≡ u + (pick h 1 0 + n)
@@ -135,7 +135,7 @@ match_fraction {m} valid (suc f) whole =
     let ds = digits_of (suc f) whole in
     let behind : Matches (times (suc f) hash_byte ++ []) (digit_bytes ds ++ []) =
     match_body (times_body (suc f)) ds (digits_length (suc f) whole) (digits_are_digits (suc f) whole) [] [] tt in
-    (λ e. mark_byte valid.decimal_byte, subst⁻¹ (Matches (times (suc f) hash_byte)) (decimal-digits m ds) (simp append-nil at behind))
+    (λ e. mark_byte valid.decimal_byte, subst⁻¹ (Matches (times (suc f) hash_byte)) (decimal_digits m ds) (simp append-nil at behind))
 
 -- the sign
 match_sign : (sign : Sign) (negative : Bool) (r text : List ℕ) → Matches r text → Matches (sign_bytes sign ++ r) (sign_text sign negative ++ text)
@@ -156,7 +156,7 @@ match_field {m} valid f t below kind =
     let behind = match_fraction valid im.fraction t.whole in
     let body = match_body (runs_body f.runs) ds (digits_length im.integer front) (digits_are_digits im.integer front) _ _ behind in
     subst⁻¹ (λ (l : List ℕ). Matches l (with_decimal m (alpha_text im t))) (fixed_bytes f kind)
-    (subst⁻¹ (Matches (sign_bytes f.sign ++ (run_bytes f.runs ++ fraction_bytes f.fraction))) (text-parts m im t below kind)
+    (subst⁻¹ (Matches (sign_bytes f.sign ++ (run_bytes f.runs ++ fraction_bytes f.fraction))) (text_parts m im t below kind)
     (match_sign f.sign t.negative _ _ body))
 
 -- a digit stands before a position of a fixed-point field exactly where more # signs do than are hidden
@@ -177,9 +177,9 @@ digit_before {m} valid {field} {f} is t below kind p =
     (subst⁻¹ (λ (i : Image). Matches (field_bytes f) (with_decimal m (alpha_text i t))) same (match_field valid f t small fixed)) in
     let none : ltb s 0 ≡ false = le-ltb s 0 (omega arith) in
     let start : 0 + hash_count (take p field) ≡ hash_count (take p field) = omega arith in
-    ap (λ (l : List ℕ). has_digit (take p l)) (rule-whole m im t field)
+    ap (λ (l : List ℕ). has_digit (take p l)) (rule_whole m im t field)
     ∙ ap (λ (c : Bool). c || has_digit (take p (ruled m s 0 field text))) (sym none)
-    ∙ digit-shown valid s p 0 field text fits
+    ∙ digit_shown valid s p 0 field text fits
     ∙ ap (ltb s) start
 
 -- A field with a comma is fixed point.

@@ -15,7 +15,7 @@ use Rattle.decimal.specs.Number.{normal}
 use Rattle.decimal.specs.Image.{hashes, image_bytes, IsImage, scanned_image}
 use Rattle.decimal.specs.Truncation.{Truncated, truncation, number_of, truncated_number}
 use Rattle.decimal.proofs.ImageLaws.{scanned_complete, reads_image}
-use Rattle.decimal.proofs.TruncationLaws.{truncation-fit}
+use Rattle.decimal.proofs.TruncationLaws.{truncation_fit}
 use Rattle.codec.specs.Contents.{IsContents, Table}
 use Rattle.codec.specs.Packing.{Packs}
 use Rattle.codec.specs.Order.{AllUnsignedFixed, Truncations, none, one}
@@ -61,38 +61,38 @@ field_passes (b ∷ bs) whole few =
 
 module _ (line : List ℕ) (whole : field_length line ≡ length line) (some : 0 < length line) where
   -- no literal byte
-  whole-literals : literals line ≡ []
-  whole-literals = no_literals line (omega arith)
+  whole_literals : literals line ≡ []
+  whole_literals = no_literals line (omega arith)
 
   -- a field
   whole_has : has_field line ≡ true
   unfolding has_field
-  whole_has = rw (whole-literals, lt-ltb 0 (length line) some)
+  whole_has = rw (whole_literals, lt-ltb 0 (length line) some)
 
   -- which is the line
-  whole-first : first_field line ≡ line
+  whole_first : first_field line ≡ line
   unfolding first_field
-  whole-first = rw (whole-literals, whole, take-length line)
+  whole_first = rw (whole_literals, whole, take-length line)
 
   -- and nothing behind it
-  whole-behind : behind_field line ≡ []
+  whole_behind : behind_field line ≡ []
   unfolding behind_field
-  whole-behind =
+  whole_behind =
       let all : length line ≤ length line = omega arith in
-      rw (whole-literals, whole) (drop_of_length-le line all)
+      rw (whole_literals, whole) (drop_of_length-le line all)
 
   -- what is printed with one number that is not spilled
   whole_from : (n : Number) {bytes : List ℕ} → number_in line n ≡ done bytes
       → print_from [] line line (element.Number n ∷ []) ≡ record { bytes = bytes; spilled = 0 }
   unfolding print_from one_field and_then element_bytes element_spills or_field spilled_by literals
   whole_from n {bytes} h =
-      rw (whole_has, whole-literals, whole-first, whole-behind, h) (λ i. record { bytes = append-nil bytes i; spilled = 0 })
+      rw (whole_has, whole_literals, whole_first, whole_behind, h) (λ i. record { bytes = append-nil bytes i; spilled = 0 })
 
   -- and that nothing is refused
-  whole-printed : length line ≤ max_line → hashes (scanned_image line) ≤ precision → (n : Number) → normal n ≡ true → {bytes : List ℕ}
+  whole_printed : length line ≤ max_line → hashes (scanned_image line) ≤ precision → (n : Number) → normal n ≡ true → {bytes : List ℕ}
       → number_in line n ≡ done bytes → printed line (element.Number n ∷ []) [] ≡ done (record { bytes = bytes; spilled = 0 })
   unfolding printed check_counts check_some check_elements check_element ◌then◌
-  whole-printed short few n plain {bytes} h =
+  whole_printed short few n plain {bytes} h =
       rw (le-leb (length line) max_line short, field_passes line whole few, whole_has, plain)
       (ap {B = Answer Print} done (whole_from n h))
 
@@ -109,20 +109,20 @@ pub image_printed : (im : Image) (n : Number) {t : Truncated} → truncation 0 i
     → print_field im n ≡ done (record { bytes = shown_in (image_bytes im) im t; spilled = 0 })
 unfolding print_field
 image_printed im n {t} h =
-    let fit = truncation-fit 0 im n h in
+    let fit = truncation_fit 0 im n h in
     let some = fit.nonempty in
     let size = fit.size in
     let short = image_short im in
     let is : IsImage (image_bytes im) im = record { rendered = refl; nonempty = some } in
     let few : hashes (scanned_image (image_bytes im)) ≤ precision = rw (scanned_complete im some).1 size in
-    whole-printed (image_bytes im) (image_whole is) (omega (arith, short.0)) (omega (arith, short.1)) few n fit.number_checked
+    whole_printed (image_bytes im) (image_whole is) (omega (arith, short.0)) (omega (arith, short.1)) few n fit.number_checked
     (image_number im some n h)
 
 -- Published: it is read back as the truncation.
 pub image_field_back : (im : Image) (n : Number) {t : Truncated} → truncation 0 im n ≡ done t
     → read_field (shown_in (image_bytes im) im t) ≡ truncated_number 0 im n
 image_field_back im n {t} h =
-    let fit = truncation-fit 0 im n h in
+    let fit = truncation_fit 0 im n h in
     let is : IsImage (image_bytes im) im = record { rendered = refl; nonempty = fit.nonempty } in
     field_back (image_field is).1 n (image_number im fit.nonempty n h)
     ∙ ap (λ (j : Image). truncated_number 0 j n) (scanned_complete im fit.nonempty).1
@@ -133,7 +133,7 @@ image_field_back im n {t} h =
 image_text : (im : Image) (n : Number) {t : Truncated} → truncation 0 im n ≡ done t → alpha_of (image_bytes im) n ≡ done (alpha_text im t)
 unfolding alpha_of alpha_under ◌then◌
 image_text im n h =
-    let fit = truncation-fit 0 im n h in
+    let fit = truncation_fit 0 im n h in
     let is : IsImage (image_bytes im) im = record { rendered = refl; nonempty = fit.nonempty } in
     rw (reads_image 0 is fit.size, h)
 
@@ -214,8 +214,8 @@ module _ (contents : List ℕ) {ims : List Image} (is : IsContents contents ims)
       }
 
   -- the order and the equality of two bodies
-  lists-ordered : AllUnsignedFixed ims → (ms ns : List Number) → Packs contents ms → Packs contents ns → Ordered contents ims ms ns
-  lists-ordered kinds ms ns p q =
+  lists_ordered : AllUnsignedFixed ims → (ms ns : List Number) → Packs contents ms → Packs contents ns → Ordered contents ims ms ns
+  lists_ordered kinds ms ns p q =
       let reads = packs_read is p in
       let a = (packs_contents contents ms).0 p in
       let b = (packs_contents contents ns).0 q in
@@ -230,4 +230,4 @@ module _ (contents : List ℕ) {ims : List Image} (is : IsContents contents ims)
 
 -- Published: demand 3 holds.
 pub demand_3 : Demand3
-demand_3 = record { order = lists-ordered; read_back = list_back }
+demand_3 = record { order = lists_ordered; read_back = list_back }

@@ -18,7 +18,7 @@ use Rattle.decimal.specs.Number.{exponent_limit, normal, scaled_number}
 use Rattle.decimal.specs.Image.{plus_byte, minus_byte, point_byte, hashes, sign_bytes, times, fraction_bytes, up_bytes, scanned_image}
 use Rattle.decimal.specs.Truncation.{Truncated, truncation, number_of, truncated_number}
 use Rattle.decimal.proofs.DigitLaws.{digits_length, digits_are_digits}
-use Rattle.decimal.proofs.TruncationLaws.{truncation-fit}
+use Rattle.decimal.proofs.TruncationLaws.{truncation_fit}
 use Rattle.decimal.proofs.KeptLaws.{truncates_to_itself}
 use Rattle.codec.specs.Packing.{exponent_size}
 use Rattle.codec.specs.Alpha.{exponent_byte, digit_bytes, sign_text, fraction_text, exponent_text, alpha_text}
@@ -30,9 +30,9 @@ use Rattle.records.specs.Scanning.{Field, IsField, run_bytes, total, field_bytes
 use Rattle.records.specs.declared.marks.Marks.{Marks}
 use Rattle.records.specs.Marks.{ValidMarks, with_decimal, without_marks}
 use Rattle.records.specs.Fields.{fill_bytes, nothing_filled, shown_marked, number_marked, number_in, read_marked, read_field}
-use Rattle.records.proofs.MarkLaws.{document_valid, keeps-exponent, keeps-decimal, decimal-append, decimal-digits, decimal-sign, decimal-exponent}
+use Rattle.records.proofs.MarkLaws.{document_valid, keeps_exponent, keeps_decimal, decimal_append, decimal_digits, decimal_sign, decimal_exponent}
 use Rattle.records.proofs.FieldTheorem.{field_image_lem}
-use Rattle.records.proofs.FillLaws.{marked, elements_before, marks-digits, marks-plus, marks-minus, runs_body, marked-sign, Hidden, fill-hidden, fill-fraction}
+use Rattle.records.proofs.FillLaws.{marked, elements_before, marks_digits, marks_plus, marks_minus, runs_body, marked_sign, Hidden, fill_hidden, fill_fraction}
 
 -- The text that is left.
 
@@ -132,7 +132,7 @@ short_value {im} {t} s =
 pub short_back : {im : Image} {t : Truncated} {bytes : List ℕ} → Short im t bytes → (n : Number) → truncation 0 im n ≡ done t
     → convert_text bytes ≡ number_of 0 im t
 short_back {im} {t} s n h =
-    let fit = truncation-fit 0 im n h in
+    let fit = truncation_fit 0 im n h in
     converts_form (short_form s fit.nonempty fit.size)
     ∙ short_value s
     ∙ sym (converts_form (alpha_form im t fit.nonempty fit.size))
@@ -166,7 +166,7 @@ fixed_tail {m} valid f t s kind =
     ap (λ (l : List ℕ). marked m im t s (0 + i) (behind ++ l)) (no_ups f.exponential kind)
     ∙ ap (λ (l : List ℕ). marked m im t s (0 + i) l) (append-nil behind)
     ∙ ap (λ (u : ℕ). marked m im t s u behind) place
-    ∙ fill-fraction valid im t s
+    ∙ fill_fraction valid im t s
     ∙ sym (append-nil (point_bytes (alpha_point f.fraction t.whole)))
     ∙ ap (λ (l : List ℕ). point_bytes (alpha_point f.fraction t.whole) ++ l) (sym (no_power f.exponential t kind))
 
@@ -177,14 +177,14 @@ unfolding marked field_bytes short_bytes
 fixed_short {m} valid f t kind =
     let im = field_image f in
     let behind = fraction_bytes f.fraction ++ up_bytes f.exponential in
-    let hidden : Hidden valid im t (run_bytes f.runs) 0 (total f.runs) behind = fill-hidden valid im t (runs_body f.runs) 0 behind (omega arith) in
+    let hidden : Hidden valid im t (run_bytes f.runs) 0 (total f.runs) behind = fill_hidden valid im t (runs_body f.runs) 0 behind (omega arith) in
     record {
       count = hidden.count;
       digits = hidden.digits;
       all = sym (elements_before im t) ∙ hidden.all;
       some = hidden.some;
       left =
-          marked-sign valid im t f.sign (run_bytes f.runs ++ behind)
+          marked_sign valid im t f.sign (run_bytes f.runs ++ behind)
           ∙ ap (λ (l : List ℕ). sign_bytes (alpha_sign f.sign t.negative) ++ l) hidden.shows
           ∙ ap (λ (l : List ℕ). sign_bytes (alpha_sign f.sign t.negative) ++ (digit_bytes hidden.digits ++ l)) (fixed_tail valid f t hidden.then-shown kind);
     }
@@ -193,63 +193,63 @@ fixed_short {m} valid f t kind =
 
 module _ {m : Marks} (valid : ValidMarks m) where
   -- of the sign's text the sign stays
-  marks-sign : (sign : Sign) (negative : Bool) (r : List ℕ)
+  marks_sign : (sign : Sign) (negative : Bool) (r : List ℕ)
       → without_marks m (with_decimal m (sign_text sign negative) ++ r) ≡ sign_bytes (alpha_sign sign negative) ++ without_marks m r
   unfolding sign_text alpha_sign sign_bytes
-  marks-sign sign negative r = ap (λ (l : List ℕ). without_marks m (l ++ r)) (decimal-sign m sign negative) ∙ go sign
+  marks_sign sign negative r = ap (λ (l : List ℕ). without_marks m (l ++ r)) (decimal_sign m sign negative) ∙ go sign
     where
       go : (s : Sign) → without_marks m (sign_text s negative ++ r) ≡ sign_bytes (alpha_sign s negative) ++ without_marks m r
       go Unsigned = refl
-      go Plus = marks-plus valid negative r
-      go Minus = marks-minus valid negative r
+      go Plus = marks_plus valid negative r
+      go Minus = marks_minus valid negative r
 
   -- the digits of a number stay
-  marks-number : (n k : ℕ) (r : List ℕ) → without_marks m (with_decimal m (digit_bytes (digits_of n k)) ++ r) ≡ digit_bytes (digits_of n k) ++ without_marks m r
-  marks-number n k r =
-      ap (λ (l : List ℕ). without_marks m (l ++ r)) (decimal-digits m (digits_of n k))
-      ∙ marks-digits valid (digits_of n k) (digits_are_digits n k) r
+  marks_number : (n k : ℕ) (r : List ℕ) → without_marks m (with_decimal m (digit_bytes (digits_of n k)) ++ r) ≡ digit_bytes (digits_of n k) ++ without_marks m r
+  marks_number n k r =
+      ap (λ (l : List ℕ). without_marks m (l ++ r)) (decimal_digits m (digits_of n k))
+      ∙ marks_digits valid (digits_of n k) (digits_are_digits n k) r
 
   -- the decimal mark becomes the point, and the digits behind it stay
-  marks-fraction : (f whole : ℕ) (r : List ℕ)
+  marks_fraction : (f whole : ℕ) (r : List ℕ)
       → without_marks m (with_decimal m (fraction_text f whole) ++ r) ≡ point_bytes (alpha_point f whole) ++ without_marks m r
   unfolding fraction_text alpha_point point_bytes with_decimal
-  marks-fraction zero whole r = refl
-  marks-fraction (suc f) whole r =
-      keeps-decimal valid (with_decimal m (digit_bytes (digits_of (suc f) whole)) ++ r)
-      ∙ ap (λ (l : List ℕ). point_byte ∷ l) (marks-number (suc f) whole r)
+  marks_fraction zero whole r = refl
+  marks_fraction (suc f) whole r =
+      keeps_decimal valid (with_decimal m (digit_bytes (digits_of (suc f) whole)) ++ r)
+      ∙ ap (λ (l : List ℕ). point_byte ∷ l) (marks_number (suc f) whole r)
 
   -- digits alone stay
-  marks-all : (ds : List ℕ) → Digits ds → without_marks m (digit_bytes ds) ≡ digit_bytes ds
+  marks_all : (ds : List ℕ) → Digits ds → without_marks m (digit_bytes ds) ≡ digit_bytes ds
   unfolding without_marks
-  marks-all ds h = ap (without_marks m) (sym (append-nil (digit_bytes ds))) ∙ marks-digits valid ds h [] ∙ append-nil (digit_bytes ds)
+  marks_all ds h = ap (without_marks m) (sym (append-nil (digit_bytes ds))) ∙ marks_digits valid ds h [] ∙ append-nil (digit_bytes ds)
 
   -- the exponent stays
-  marks-exponent : (kind : Bool) (t : Truncated) → without_marks m (with_decimal m (exponent_text kind t)) ≡ power_bytes (alpha_power kind t)
+  marks_exponent : (kind : Bool) (t : Truncated) → without_marks m (with_decimal m (exponent_text kind t)) ≡ power_bytes (alpha_power kind t)
   unfolding exponent_text alpha_power power_bytes without_marks
-  marks-exponent kind t = ap (without_marks m) (decimal-exponent m kind t) ∙ go kind
+  marks_exponent kind t = ap (without_marks m) (decimal_exponent m kind t) ∙ go kind
     where
       go : (k : Bool) → without_marks m (exponent_text k t) ≡ power_bytes (alpha_power k t)
       go false = refl
       go true =
           let below = ltb t.x exponent_limit in
           let ds = digits_of 2 (exponent_size t) in
-          keeps-exponent valid (pick below minus_byte plus_byte ∷ digit_bytes ds)
+          keeps_exponent valid (pick below minus_byte plus_byte ∷ digit_bytes ds)
           ∙ ap (λ (l : List ℕ). exponent_byte ∷ l)
-          (marks-plus valid below (digit_bytes ds) ∙ ap (λ (l : List ℕ). sign_bytes (pick below Minus Plus) ++ l) (marks-all ds (digits_are_digits 2 (exponent_size t))))
+          (marks_plus valid below (digit_bytes ds) ∙ ap (λ (l : List ℕ). sign_bytes (pick below Minus Plus) ++ l) (marks_all ds (digits_are_digits 2 (exponent_size t))))
 
   -- an alpha text with the decimal mark, in its parts
-  decimal-parts : (im : Image) (t : Truncated)
+  decimal_parts : (im : Image) (t : Truncated)
       → with_decimal m (alpha_text im t)
       ≡ with_decimal m (sign_text im.sign t.negative)
       ++ (with_decimal m (digit_bytes (digits_of im.integer (t.whole / 10 ^ im.fraction)))
       ++ (with_decimal m (fraction_text im.fraction t.whole) ++ with_decimal m (exponent_text im.exponential t)))
   unfolding alpha_text
-  decimal-parts im t = simp (decimal-append m)
+  decimal_parts im t = simp (decimal_append m)
 
   -- an alpha text
-  alpha-short : (im : Image) (t : Truncated) → Short im t (without_marks m (with_decimal m (alpha_text im t)))
+  alpha_short : (im : Image) (t : Truncated) → Short im t (without_marks m (with_decimal m (alpha_text im t)))
   unfolding short_bytes zeros
-  alpha-short im t =
+  alpha_short im t =
       let front = t.whole / 10 ^ im.fraction in
       let ds = digits_of im.integer front in
       let sign = sign_bytes (alpha_sign im.sign t.negative) in
@@ -262,32 +262,32 @@ module _ {m : Marks} (valid : ValidMarks m) where
         all = refl;
         some = λ h. omega (arith, digits_length im.integer front);
         left =
-            ap (without_marks m) (decimal-parts im t)
-            ∙ marks-sign im.sign t.negative (digits ++ (fraction ++ power))
-            ∙ ap (λ (l : List ℕ). sign ++ l) (marks-number im.integer front (fraction ++ power))
-            ∙ ap (λ (l : List ℕ). sign ++ (digit_bytes ds ++ l)) (marks-fraction im.fraction t.whole power)
-            ∙ ap (λ (l : List ℕ). sign ++ (digit_bytes ds ++ (point_bytes (alpha_point im.fraction t.whole) ++ l))) (marks-exponent im.exponential t);
+            ap (without_marks m) (decimal_parts im t)
+            ∙ marks_sign im.sign t.negative (digits ++ (fraction ++ power))
+            ∙ ap (λ (l : List ℕ). sign ++ l) (marks_number im.integer front (fraction ++ power))
+            ∙ ap (λ (l : List ℕ). sign ++ (digit_bytes ds ++ l)) (marks_fraction im.fraction t.whole power)
+            ∙ ap (λ (l : List ℕ). sign ++ (digit_bytes ds ++ (point_bytes (alpha_point im.fraction t.whole) ++ l))) (marks_exponent im.exponential t);
       }
 
 -- Each field.
 
 module _ {m : Marks} (valid : ValidMarks m) where
   -- the bytes of a number in a field
-  bytes-short : (f : Field) (t : Truncated) → Short (field_image f) t (without_marks m (shown_marked m (field_bytes f) (field_image f) t))
+  bytes_short : (f : Field) (t : Truncated) → Short (field_image f) t (without_marks m (shown_marked m (field_bytes f) (field_image f) t))
   unfolding shown_marked
-  bytes-short f t = go f.exponential refl
+  bytes_short f t = go f.exponential refl
     where
       go : (b : Bool) → f.exponential ≡ b
           → Short (field_image f) t (without_marks m (pick b (with_decimal m (alpha_text (field_image f) t)) (fill_bytes m (field_image f) t nothing_filled (field_bytes f))))
-      go true kind = alpha-short valid (field_image f) t
+      go true kind = alpha_short valid (field_image f) t
       go false kind = fixed_short valid f t kind
 
   -- Published: a number in a field, without its marks, is the alpha text without its blank and without some zeros before it.
-  pub field-short : {field : List ℕ} {f : Field} → IsField field f → (t : Truncated)
+  pub field_short : {field : List ℕ} {f : Field} → IsField field f → (t : Truncated)
       → Short (scanned_image field) t (without_marks m (shown_marked m field (scanned_image field) t))
-  field-short {field} {f} r t =
+  field_short {field} {f} r t =
       subst⁻¹ (λ (im : Image). Short im t (without_marks m (shown_marked m field im t))) (field_image_lem r)
-      (subst⁻¹ (λ (l : List ℕ). Short (field_image f) t (without_marks m (shown_marked m l (field_image f) t))) r.rendered (bytes-short f t))
+      (subst⁻¹ (λ (l : List ℕ). Short (field_image f) t (without_marks m (shown_marked m l (field_image f) t))) r.rendered (bytes_short f t))
 
 -- the truncation of a number in a field
 pub record InField (m : Marks) (field : List ℕ) (n : Number) (bytes : List ℕ) : Type 0 where
@@ -312,7 +312,7 @@ unfolding read_marked truncated_number ◌then◌
 field_back_marked {m} valid {field} {f} r n {bytes} h =
     let in-it = in_field m field n h in
     ap (λ (l : List ℕ). convert_text (without_marks m l)) in-it.bytes_are
-    ∙ short_back (field-short valid r in-it.to) n in-it.truncated
+    ∙ short_back (field_short valid r in-it.to) n in-it.truncated
     ∙ sym (ap (λ (a : Answer Truncated). a then number_of 0 (scanned_image field)) in-it.truncated)
 
 -- Published: so it does with document 01's marks.
@@ -341,9 +341,9 @@ field_reads_back {m} valid {field} {f} r n {bytes} h =
     let in-it = in_field m field n h in
     let t = in-it.to in
     let e = in-it.truncated in
-    let fit = truncation-fit 0 im n e in
+    let fit = truncation_fit 0 im n e in
     let itself = truncates_to_itself 0 im n e in
-    let short = field-short valid r t in
+    let short = field_short valid r t in
     let value : truncated_number 0 im n ≡ done itself.number = ap (λ (a : Answer Truncated). a then number_of 0 im) e ∙ itself.stands_for in
     let same : truncation 0 im itself.number ≡ truncation 0 im n = itself.again ∙ sym e in
     record {

@@ -23,9 +23,9 @@ use Rattle.decimal.specs.Truncation.{Truncated, truncation}
 use Rattle.decimal.proofs.DigitLaws.{digit_below, digits_are_digits, le_or_lt}
 use Rattle.codec.specs.Answers.{stored_in, written, sized}
 use Rattle.codec.specs.Alpha.{alpha_text, text_length, writing_alpha_under, blank_byte, zero_byte}
-use Rattle.codec.proofs.ListLaws.{filled-length}
+use Rattle.codec.proofs.ListLaws.{filled_length}
 use Rattle.decimal.proofs.AnswerLaws.{never_done}
-use Rattle.codec.proofs.AlphaLaws.{text_length_lem, image_length, under-refused, under-done, writing-under-refused, writing-under-done}
+use Rattle.codec.proofs.AlphaLaws.{text_length_lem, image_length, under_refused, under_done, writing-under-refused, writing-under-done}
 use Rattle.records.specs.declared.fields.Fill.{Fill}
 use Rattle.records.specs.declared.fields.Element.{Element}
 use Rattle.records.specs.declared.fields.Element.TheVariants as element
@@ -36,7 +36,7 @@ use Rattle.records.specs.Fields.{next_digit, suppressed, sign_byte_of, fill_byte
 use Rattle.records.specs.Fields.{text_in, element_bytes, FieldReady, hash_count}
 use Rattle.records.specs.Printing.{check_element}
 use Rattle.records.proofs.FieldTheorem.{field_image_lem}
-use Rattle.records.proofs.MarkLaws.{decimal-length}
+use Rattle.records.proofs.MarkLaws.{decimal_length}
 
 -- a byte behind a list's end is the default
 pub get_d_behind : (l : List ℕ) (j d : ℕ) → length l ≤ j → d ≡ get_or l j d
@@ -88,55 +88,55 @@ suppressed_by im t fill e h = sym (h ∙ ap (λ (d : ℕ). not fill.shown && (eq
 
 module _ (m : Marks) (im : Image) (t : Truncated) (fill : Fill) {b : ℕ} where
   -- a zero that is not shown
-  pub fill-blank : b ≡ hash_byte → suppressed im t fill ≡ true → m.filling ≡ fill_byte m im t fill b
+  pub fill_blank : b ≡ hash_byte → suppressed im t fill ≡ true → m.filling ≡ fill_byte m im t fill b
   unfolding fill_byte
-  fill-blank e h = sym (ap (fill_byte m im t fill) e ∙ ap (λ (c : Bool). pick c m.filling (zero_byte + next_digit im t fill)) h)
+  fill_blank e h = sym (ap (fill_byte m im t fill) e ∙ ap (λ (c : Bool). pick c m.filling (zero_byte + next_digit im t fill)) h)
 
   -- a digit
-  pub fill-digit : b ≡ hash_byte → suppressed im t fill ≡ false → zero_byte + next_digit im t fill ≡ fill_byte m im t fill b
+  pub fill_digit : b ≡ hash_byte → suppressed im t fill ≡ false → zero_byte + next_digit im t fill ≡ fill_byte m im t fill b
   unfolding fill_byte
-  fill-digit e h = sym (ap (fill_byte m im t fill) e ∙ ap (λ (c : Bool). pick c m.filling (zero_byte + next_digit im t fill)) h)
+  fill_digit e h = sym (ap (fill_byte m im t fill) e ∙ ap (λ (c : Bool). pick c m.filling (zero_byte + next_digit im t fill)) h)
 
   -- a comma
-  pub fill-comma : b ≡ comma_byte → pick fill.shown m.thousands m.filling ≡ fill_byte m im t fill b
+  pub fill_comma : b ≡ comma_byte → pick fill.shown m.thousands m.filling ≡ fill_byte m im t fill b
   unfolding fill_byte
-  fill-comma e = sym (ap (fill_byte m im t fill) e)
+  fill_comma e = sym (ap (fill_byte m im t fill) e)
 
   -- the point
-  pub fill-point : b ≡ point_byte → m.decimal ≡ fill_byte m im t fill b
+  pub fill_point : b ≡ point_byte → m.decimal ≡ fill_byte m im t fill b
   unfolding fill_byte
-  fill-point e = sym (ap (fill_byte m im t fill) e)
+  fill_point e = sym (ap (fill_byte m im t fill) e)
 
   -- the sign
-  pub fill-sign : (b ≡ hash_byte → ⊥) → (b ≡ comma_byte → ⊥) → (b ≡ point_byte → ⊥) → sign_byte_of b t.negative ≡ fill_byte m im t fill b
+  pub fill_sign : (b ≡ hash_byte → ⊥) → (b ≡ comma_byte → ⊥) → (b ≡ point_byte → ⊥) → sign_byte_of b t.negative ≡ fill_byte m im t fill b
   unfolding fill_byte
-  fill-sign h k p = rw (ne_eqb b hash_byte h, ne_eqb b comma_byte k, ne_eqb b point_byte p)
+  fill_sign h k p = rw (ne_eqb b hash_byte h, ne_eqb b comma_byte k, ne_eqb b point_byte p)
 
 module _ (im : Image) (t : Truncated) (fill : Fill) {b : ℕ} where
   -- whether a digit was shown behind a #
-  pub shown-hash : b ≡ hash_byte → (fill_next im t fill b).shown ≡ not (suppressed im t fill)
+  pub shown_hash : b ≡ hash_byte → (fill_next im t fill b).shown ≡ not (suppressed im t fill)
   unfolding fill_next
-  shown-hash e = ap (λ (c : ℕ). (fill_next im t fill c).shown) e
+  shown_hash e = ap (λ (c : ℕ). (fill_next im t fill c).shown) e
 
   -- and behind a comma
-  pub shown-comma : b ≡ comma_byte → (fill_next im t fill b).shown ≡ fill.shown
+  pub shown_comma : b ≡ comma_byte → (fill_next im t fill b).shown ≡ fill.shown
   unfolding fill_next
-  shown-comma e = ap (λ (c : ℕ). (fill_next im t fill c).shown) e
+  shown_comma e = ap (λ (c : ℕ). (fill_next im t fill c).shown) e
 
   -- behind a #
-  pub next-hash : b ≡ hash_byte → {hidden : Bool} → suppressed im t fill ≡ hidden → record { shown = not hidden; used = fill.used + 1 } ≡ fill_next im t fill b
+  pub next_hash : b ≡ hash_byte → {hidden : Bool} → suppressed im t fill ≡ hidden → record { shown = not hidden; used = fill.used + 1 } ≡ fill_next im t fill b
   unfolding fill_next
-  next-hash e h = sym (ap (fill_next im t fill) e ∙ ap (λ (c : Bool). record { shown = not c; used = fill.used + 1 }) h)
+  next_hash e h = sym (ap (fill_next im t fill) e ∙ ap (λ (c : Bool). record { shown = not c; used = fill.used + 1 }) h)
 
   -- behind the point
-  pub next-point : b ≡ point_byte → record { shown = true; used = fill.used } ≡ fill_next im t fill b
+  pub next_point : b ≡ point_byte → record { shown = true; used = fill.used } ≡ fill_next im t fill b
   unfolding fill_next
-  next-point e = sym (ap (fill_next im t fill) e)
+  next_point e = sym (ap (fill_next im t fill) e)
 
   -- behind any other byte
-  pub next-other : (b ≡ hash_byte → ⊥) → (b ≡ point_byte → ⊥) → fill ≡ fill_next im t fill b
+  pub next_other : (b ≡ hash_byte → ⊥) → (b ≡ point_byte → ⊥) → fill ≡ fill_next im t fill b
   unfolding fill_next
-  next-other h p = rw (ne_eqb b hash_byte h, ne_eqb b point_byte p)
+  next_other h p = rw (ne_eqb b hash_byte h, ne_eqb b point_byte p)
 
 -- Filling.
 
@@ -179,35 +179,35 @@ used_next im t fill b = picked_used (eqb b hash_byte) _ _ ∙ picked_more (eqb b
 
 module _ {m : Marks} {im : Image} {t : Truncated} {field : List ℕ} {fill : Fill} {j : ℕ} (f : Filling m im t field fill j) (h : j < length field) where
   -- what is still to come from a byte on
-  rest-cons :
+  rest_cons :
       drop j (fill_bytes m im t nothing_filled field)
       ≡ fill_byte m im t fill (get_or field j 0) ∷ fill_bytes m im t (fill_next im t fill (get_or field j 0)) (drop (suc j) field)
   unfolding fill_bytes
-  rest-cons = f.rest ∙ ap (fill_bytes m im t fill) (drop-cons field j 0 h)
+  rest_cons = f.rest ∙ ap (fill_bytes m im t fill) (drop-cons field j 0 h)
 
   -- and of what is filled
-  whole-cons :
+  whole_cons :
       drop j (fill_bytes m im t nothing_filled field)
       ≡ get_or (fill_bytes m im t nothing_filled field) j 0 ∷ drop (suc j) (fill_bytes m im t nothing_filled field)
-  whole-cons = drop-cons (fill_bytes m im t nothing_filled field) j 0 (omega (arith, fill_length m im t nothing_filled field))
+  whole_cons = drop-cons (fill_bytes m im t nothing_filled field) j 0 (omega (arith, fill_length m im t nothing_filled field))
 
   -- the next byte
   pub filling_byte : fill_byte m im t fill (get_or field j 0) ≡ get_or (fill_bytes m im t nothing_filled field) j 0
-  filling_byte = ap (λ (l : List ℕ). get_or l 0 0) (sym rest-cons ∙ whole-cons)
+  filling_byte = ap (λ (l : List ℕ). get_or l 0 0) (sym rest_cons ∙ whole_cons)
 
   -- a digit is left for a #
-  pub filling-hash : get_or field j 0 ≡ hash_byte → fill.used < hashes im
-  filling-hash e =
+  pub filling_hash : get_or field j 0 ≡ hash_byte → fill.used < hashes im
+  filling_hash e =
       let one : ◌≡◌ {A = ℕ} (pick (eqb (get_or field j 0) hash_byte) 1 0) 1 = rw (eq-eqb (get_or field j 0) hash_byte e) in
       omega (arith, f.left, count_cons field j h)
 
   -- one byte more
-  pub filling-turns : Filling m im t field (fill_next im t fill (get_or field j 0)) (j + 1)
-  filling-turns =
+  pub filling_turns : Filling m im t field (fill_next im t fill (get_or field j 0)) (j + 1)
+  filling_turns =
       rw (add-one j)
       (record {
         inside = omega arith;
-        rest = ap (λ (l : List ℕ). drop 1 l) (sym whole-cons ∙ rest-cons);
+        rest = ap (λ (l : List ℕ). drop 1 l) (sym whole_cons ∙ rest_cons);
         left = omega (arith, f.left, count_cons field j h, used_next im t fill (get_or field j 0));
       })
 
@@ -315,32 +315,32 @@ pub record AlphaWritten (im : Image) (n : Number) (room : ℕ) : Type 0 where
 
 module _ {field : List ℕ} (ready : FieldReady field) {im : Image} (same : im ≡ scanned_image field) (e : im.exponential ≡ true) (n : Number) {room : ℕ} (fits : length field ≤ room) where
   -- a text has the field's length
-  pub exponential-length : text_length im ≡ length field
-  exponential-length =
+  pub exponential_length : text_length im ≡ length field
+  exponential_length =
       let image = exponential_image ready.is_field (sym (ap (λ (i : Image). i.exponential) same) ∙ e) in
       ap text_length same ∙ sym (ap length image.rendered ∙ image_length (scanned_image field))
 
   -- so that there is room for it
-  alpha-given : {t : Truncated} → truncation 0 im n ≡ done t → writing_alpha_under im n room ≡ done (alpha_text im t)
-  alpha-given {t} h = writing-under-done im n room (under-done im n h) (omega (arith, text_length_lem im t, exponential-length))
+  alpha_given : {t : Truncated} → truncation 0 im n ≡ done t → writing_alpha_under im n room ≡ done (alpha_text im t)
+  alpha_given {t} h = writing-under-done im n room (under_done im n h) (omega (arith, text_length_lem im t, exponential_length))
 
   -- a number is refused where it is not truncated
-  pub alpha-refused : {number place : ℕ} → refused number place ≡ sized (writing_alpha_under im n room) → AlphaRefused im n room
+  pub alpha_refused : {number place : ℕ} → refused number place ≡ sized (writing_alpha_under im n room) → AlphaRefused im n room
   unfolding sized
-  alpha-refused {number} {place} h = go (truncation 0 im n) refl
+  alpha_refused {number} {place} h = go (truncation 0 im n) refl
     where
       go : (a : Answer Truncated) → truncation 0 im n ≡ a → AlphaRefused im n room
-      go (done t) k = never_done {number = number} {place = place} (h ∙ ap sized (alpha-given k))
-      go (refused x y) k = record { number = x; place = y; truncated = k; answer = writing-under-refused im n room (under-refused im n k) }
+      go (done t) k = never_done {number = number} {place = place} (h ∙ ap sized (alpha_given k))
+      go (refused x y) k = record { number = x; place = y; truncated = k; answer = writing-under-refused im n room (under_refused im n k) }
 
   -- else its text is written
-  pub alpha-written : {size : ℕ} → done size ≡ sized (writing_alpha_under im n room) → AlphaWritten im n room
+  pub alpha_written : {size : ℕ} → done size ≡ sized (writing_alpha_under im n room) → AlphaWritten im n room
   unfolding sized
-  alpha-written {size} h = go (truncation 0 im n) refl
+  alpha_written {size} h = go (truncation 0 im n) refl
     where
       go : (a : Answer Truncated) → truncation 0 im n ≡ a → AlphaWritten im n room
-      go (done t) k = record { to = t; truncated = k; answer = alpha-given k }
-      go (refused x y) k = never_done {number = x} {place = y} (sym (ap sized (writing-under-refused im n room (under-refused im n k))) ∙ sym h)
+      go (done t) k = record { to = t; truncated = k; answer = alpha_given k }
+      go (refused x y) k = never_done {number = x} {place = y} (sym (ap sized (writing-under-refused im n room (under_refused im n k))) ∙ sym h)
 
 -- What a number prints.
 
@@ -352,7 +352,7 @@ shown_length m {field} is t = go (scanned_image field).exponential refl
     go : (e : Bool) → (scanned_image field).exponential ≡ e
         → length (pick e (with_decimal m (alpha_text (scanned_image field) t)) (fill_bytes m (scanned_image field) t nothing_filled field)) ≡ length field
     go true e =
-        decimal-length m (alpha_text (scanned_image field) t)
+        decimal_length m (alpha_text (scanned_image field) t)
         ∙ text_length_lem (scanned_image field) t
         ∙ sym (ap length (exponential_image is e).rendered ∙ image_length (scanned_image field))
     go false e = fill_length m (scanned_image field) t nothing_filled field
@@ -370,7 +370,7 @@ number_length m {field} is n = go (truncation 0 (scanned_image field) n)
 pub element_length : {field : List ℕ} {f : Field} → IsField field f → (texts : List ℕ) (e : Element) → length (element_bytes texts field e) ≡ length field
 unfolding element_bytes text_in
 element_length is texts (element.Number n) = number_length document_marks is n
-element_length {field} is texts (element.Text start size) = filled-length blank_byte (length field) (take size (drop start texts))
+element_length {field} is texts (element.Text start size) = filled_length blank_byte (length field) (take size (drop start texts))
 
 -- Spilled or not.
 
@@ -382,33 +382,33 @@ module _ (m : Marks) (field : List ℕ) (n : Number) where
       ap (λ (a : Answer Truncated). or_field field (a then λ t. done (shown_marked m field (scanned_image field) t))) h
 
   -- any other is shown
-  pub number-shown : {t : Truncated} → truncation 0 (scanned_image field) n ≡ done t → or_field field (number_marked m field n) ≡ shown_marked m field (scanned_image field) t
+  pub number_shown : {t : Truncated} → truncation 0 (scanned_image field) n ≡ done t → or_field field (number_marked m field n) ≡ shown_marked m field (scanned_image field) t
   unfolding number_marked ◌then◌ or_field
-  number-shown h =
+  number_shown h =
       ap (λ (a : Answer Truncated). or_field field (a then λ t. done (shown_marked m field (scanned_image field) t))) h
 
   -- in fixed point it fills the field
-  pub number-fixed :
+  pub number_fixed :
       {t : Truncated}
       → truncation 0 (scanned_image field) n ≡ done t
       → (scanned_image field).exponential ≡ false
       → or_field field (number_marked m field n) ≡ fill_bytes m (scanned_image field) t nothing_filled field
   unfolding shown_marked
-  number-fixed h e = number-shown h ∙ rw e
+  number_fixed h e = number_shown h ∙ rw e
 
   -- in exponential form it prints as alpha text, with the decimal mark
-  pub number-alpha :
+  pub number_alpha :
       {t : Truncated}
       → truncation 0 (scanned_image field) n ≡ done t
       → (scanned_image field).exponential ≡ true
       → or_field field (number_marked m field n) ≡ with_decimal m (alpha_text (scanned_image field) t)
   unfolding shown_marked
-  number-alpha h e = number-shown h ∙ rw e
+  number_alpha h e = number_shown h ∙ rw e
 
   -- a number that fits is not spilled
-  pub spilled-not : done tt ≡ checked_only (truncation 0 (scanned_image field) n) → false ≡ eqb (spilled_by (number_marked m field n)) 1
+  pub spilled_not : done tt ≡ checked_only (truncation 0 (scanned_image field) n) → false ≡ eqb (spilled_by (number_marked m field n)) 1
   unfolding checked_only number_marked ◌then◌ spilled_by
-  spilled-not h = go (truncation 0 (scanned_image field) n) h
+  spilled_not h = go (truncation 0 (scanned_image field) n) h
     where
       go : (a : Answer Truncated) → done tt ≡ checked_only a
           → false ≡ eqb (spilled_by (a then λ t. done (shown_marked m field (scanned_image field) t))) 1
@@ -416,10 +416,10 @@ module _ (m : Marks) (field : List ℕ) (n : Number) where
       go (refused number place) e = let z : ◌≡◌ {A = ℕ} 0 1 = cc in absurd (omega arith)
 
   -- a number that is refused is
-  pub spilled-is :
+  pub spilled_is :
       {number place : ℕ} → refused number place ≡ checked_only (truncation 0 (scanned_image field) n) → true ≡ eqb (spilled_by (number_marked m field n)) 1
   unfolding checked_only number_marked ◌then◌ spilled_by
-  spilled-is {number} {place} h = go (truncation 0 (scanned_image field) n) h
+  spilled_is {number} {place} h = go (truncation 0 (scanned_image field) n) h
     where
       go : (a : Answer Truncated) → refused number place ≡ checked_only a
           → true ≡ eqb (spilled_by (a then λ t. done (shown_marked m field (scanned_image field) t))) 1

@@ -22,10 +22,10 @@ use Rattle.decimal.specs.Image.{plus_byte, minus_byte, hash_byte, point_byte, co
 use Rattle.decimal.specs.Truncation.{Truncated, truncation, truncated_to}
 use Rattle.decimal.proofs.PowerLaws.{pow10_pos, pow10_add, pow10_suc}
 use Rattle.decimal.proofs.DigitLaws.{le_or_lt, leading_none, leading_more, leading_at_most, digits_length, digits_split}
-use Rattle.decimal.proofs.TruncationLaws.{truncation-fit, truncation-done}
+use Rattle.decimal.proofs.TruncationLaws.{truncation_fit, truncation_done}
 use Rattle.codec.specs.Alpha.{blank_byte, zero_byte, digit_bytes, sign_text, fraction_text, exponent_text, alpha_text}
 use Rattle.codec.proofs.AlphaLaws.{text_length_lem, image_length}
-use Rattle.codec.proofs.FitLaws.{whole-size}
+use Rattle.codec.proofs.FitLaws.{whole_size}
 use Rattle.records.specs.declared.marks.Marks.{Marks}
 use Rattle.records.specs.declared.fields.Element.TheVariants as element
 use Rattle.records.specs.Marks.{document_marks, with_decimal}
@@ -34,7 +34,7 @@ use Rattle.records.specs.Fields.{suppressed, sign_byte_of, fill_byte, fill_next,
 use Rattle.records.specs.FieldRule.{integer_zeros, hidden_digits, without_commas, alpha_behind, rule_byte, bytes_from, rule_bytes, number_by_rule}
 use Rattle.records.proofs.FieldTheorem.{field_image_lem}
 use Rattle.records.proofs.FieldLaws.{count_append, exponential_image}
-use Rattle.records.proofs.MarkLaws.{decimal-length, decimal-append, decimal-digits, decimal-sign}
+use Rattle.records.proofs.MarkLaws.{decimal_length, decimal_append, decimal_digits, decimal_sign}
 use Rattle.records.proofs.FillLaws.{so_far, elements, elements_before, elements_behind, Body, runs_body, times_body}
 use Rattle.records.proofs.FieldBackTheorem.{field_image, in_field}
 
@@ -143,26 +143,26 @@ module _ (m : Marks) (im : Image) (t : Truncated) (field : List ℕ) where
       (sym (first_left (with_decimal m (alpha_text im t)) (length (without_commas before))))
 
   -- the rule for the rest of the field
-  rule-rest : (before bs : List ℕ) → field ≡ before ++ bs
+  rule_rest : (before bs : List ℕ) → field ≡ before ++ bs
       → bytes_from byte_at (length before) (length bs)
       ≡ ruled m (hidden_digits im t) (hash_count before) bs (drop (length (without_commas before)) (with_decimal m (alpha_text im t)))
   unfolding bytes_from ruled
-  rule-rest before [] is = refl
-  rule-rest before (b ∷ bs) is =
+  rule_rest before [] is = refl
+  rule_rest before (b ∷ bs) is =
       let text = with_decimal m (alpha_text im t) in
       let hidden = hidden_digits im t in
       let longer : suc (length before) ≡ length (before ++ (b ∷ [])) = omega (arith, length-append before (b ∷ [])) in
       let head = byte_behind before b bs is ∙ byte_left before b in
       let tail =
       ap (λ (n : ℕ). bytes_from byte_at n (length bs)) longer
-      ∙ rule-rest (before ++ (b ∷ [])) bs (is ∙ sym (append_snoc before b bs))
+      ∙ rule_rest (before ++ (b ∷ [])) bs (is ∙ sym (append_snoc before b bs))
       ∙ (λ i. ruled m hidden (hash_next before b i) bs (text_next text before b i)) in
       λ i. head i ∷ tail i
 
   -- and for the whole of it
-  pub rule-whole : rule_bytes m field im t ≡ ruled m (hidden_digits im t) 0 field (with_decimal m (alpha_text im t))
+  pub rule_whole : rule_bytes m field im t ≡ ruled m (hidden_digits im t) 0 field (with_decimal m (alpha_text im t))
   unfolding rule_bytes hash_count without_commas
-  rule-whole = rule-rest [] field refl
+  rule_whole = rule_rest [] field refl
 
 -- the byte at a position of a list that is made by position
 made_at : (byte : ℕ → ℕ) (start n p : ℕ) → p < n → get_or (bytes_from byte start n) p 0 ≡ byte (start + p)
@@ -208,19 +208,19 @@ module _ (m : Marks) (im : Image) (t : Truncated) (below : t.whole < 10 ^ hashes
   front_below = (div-lt_iff_lt-mul (pow10_pos im.fraction)).1 (rw (← pow10_add im.integer im.fraction) below)
 
   -- at most all of them are leading zeros
-  zeros-most : integer_zeros im t ≤ im.integer
+  zeros_most : integer_zeros im t ≤ im.integer
   unfolding integer_zeros
-  zeros-most = leading_at_most im.integer (t.whole / 10 ^ im.fraction)
+  zeros_most = leading_at_most im.integer (t.whole / 10 ^ im.fraction)
 
   -- the hidden digits are the leading zeros, or all digits before the point but the last
-  hidden-are :
+  hidden_are :
       ((integer_zeros im t < im.integer) × (hidden_digits im t ≡ integer_zeros im t))
       ⊎ ((integer_zeros im t ≡ im.integer) × (hidden_digits im t ≡ im.integer - 1))
   unfolding hidden_digits
-  hidden-are =
+  hidden_are =
       let z = integer_zeros im t in
       let i = im.integer in
-      let most = zeros-most in
+      let most = zeros_most in
       let fixed : hidden_digits im t ≡ pick (ltb z i) z (i - 1) = ap (λ (e : Bool). pick e 0 (pick (ltb z i) z (i - 1))) kind in
       ⊎_elim
       (λ all. inr (omega arith, fixed ∙ ap (λ (b : Bool). pick b z (i - 1)) (le-ltb z i all)))
@@ -228,23 +228,23 @@ module _ (m : Marks) (im : Image) (t : Truncated) (below : t.whole < 10 ^ hashes
       (le_or_lt i z)
 
   -- so that they are at most i
-  hidden-most : hidden_digits im t ≤ im.integer
-  hidden-most = ⊎_elim (λ e. omega (arith, e.0, e.1)) (λ e. omega (arith, e.0, e.1)) hidden-are
+  hidden_most : hidden_digits im t ≤ im.integer
+  hidden_most = ⊎_elim (λ e. omega (arith, e.0, e.1)) (λ e. omega (arith, e.0, e.1)) hidden_are
 
   -- a hidden digit is a leading zero
-  hidden-leading : (u : ℕ) → u < hidden_digits im t → u < integer_zeros im t
-  hidden-leading u h = ⊎_elim (λ e. omega (arith, e.0, e.1)) (λ e. omega (arith, e.0, e.1)) hidden-are
+  hidden_leading : (u : ℕ) → u < hidden_digits im t → u < integer_zeros im t
+  hidden_leading u h = ⊎_elim (λ e. omega (arith, e.0, e.1)) (λ e. omega (arith, e.0, e.1)) hidden_are
 
   -- and not the last digit
-  hidden-inside : (u : ℕ) → u < hidden_digits im t → u + 1 < im.integer
-  hidden-inside u h = ⊎_elim (λ e. omega (arith, e.0, e.1)) (λ e. omega (arith, e.0, e.1)) hidden-are
+  hidden_inside : (u : ℕ) → u < hidden_digits im t → u + 1 < im.integer
+  hidden_inside u h = ⊎_elim (λ e. omega (arith, e.0, e.1)) (λ e. omega (arith, e.0, e.1)) hidden_are
 
   -- so that it is zero
-  hidden-zero : (u : ℕ) → u < hidden_digits im t → get_or all_digits u 0 ≡ 0
+  hidden_zero : (u : ℕ) → u < hidden_digits im t → get_or all_digits u 0 ≡ 0
   unfolding integer_zeros
-  hidden-zero u h =
-      front u (omega (arith, hidden-inside u h))
-      ∙ leading_zero im.integer (t.whole / 10 ^ im.fraction) u front_below (hidden-leading u h)
+  hidden_zero u h =
+      front u (omega (arith, hidden_inside u h))
+      ∙ leading_zero im.integer (t.whole / 10 ^ im.fraction) u front_below (hidden_leading u h)
 
   -- the digit behind the leading zeros is not
   first_digit : integer_zeros im t < im.integer → 0 < get_or all_digits (integer_zeros im t) 0
@@ -254,8 +254,8 @@ module _ (m : Marks) (im : Image) (t : Truncated) (below : t.whole < 10 ^ hashes
       omega (arith, front (leading_zeros im.integer k) h, leading_digit im.integer k front_below h)
 
   -- the machine hides no digit from there on
-  first-shown : (u : ℕ) → u < im.integer → u ≡ hidden_digits im t → (eqb (get_or all_digits u 0) 0 && ltb (u + 1) im.integer) ≡ false
-  first-shown u inside is =
+  first_shown : (u : ℕ) → u < im.integer → u ≡ hidden_digits im t → (eqb (get_or all_digits u 0) 0 && ltb (u + 1) im.integer) ≡ false
+  first_shown u inside is =
       ⊎_elim
       (λ e.
       let some : get_or all_digits u 0 ≡ 0 → ⊥ = λ z. omega (arith, first_digit e.0, ap (λ (k : ℕ). get_or all_digits k 0) (is ∙ e.1)) in
@@ -263,11 +263,11 @@ module _ (m : Marks) (im : Image) (t : Truncated) (below : t.whole < 10 ^ hashes
       (λ e.
       ap (λ (b : Bool). eqb (get_or all_digits u 0) 0 && b) (le-ltb (u + 1) im.integer (omega (arith, e.1)))
       ∙ and_false (eqb (get_or all_digits u 0) 0))
-      hidden-are
+      hidden_are
 
   -- what the machine hides
-  suppressed-is : (u : ℕ) → u < im.integer → suppressed im t (so_far (ltb (hidden_digits im t) u) u) ≡ ltb u (hidden_digits im t)
-  suppressed-is u inside =
+  suppressed_is : (u : ℕ) → u < im.integer → suppressed im t (so_far (ltb (hidden_digits im t) u) u) ≡ ltb u (hidden_digits im t)
+  suppressed_is u inside =
       let s = hidden_digits im t in
       let zero? = eqb (get_or all_digits u 0) 0 in
       let more? = ltb (u + 1) im.integer in
@@ -276,77 +276,77 @@ module _ (m : Marks) (im : Image) (t : Truncated) (below : t.whole < 10 ^ hashes
       ⊎_elim
       (λ same.
       ap (λ (b : Bool). not b && (zero? && more?)) (le-ltb s u (omega arith))
-      ∙ first-shown u inside (omega arith)
+      ∙ first_shown u inside (omega arith)
       ∙ sym (le-ltb u s (omega arith)))
       (λ past. ap (λ (b : Bool). not b && (zero? && more?)) (lt-ltb s u past) ∙ sym (le-ltb u s (omega arith)))
       (le_or_lt u s))
       (λ some.
       ap (λ (b : Bool). not b && (zero? && more?)) (le-ltb s u (omega arith))
-      ∙ (λ i. eq-eqb (get_or all_digits u 0) 0 (hidden-zero u some) i && lt-ltb (u + 1) im.integer (hidden-inside u some) i)
+      ∙ (λ i. eq-eqb (get_or all_digits u 0) 0 (hidden_zero u some) i && lt-ltb (u + 1) im.integer (hidden_inside u some) i)
       ∙ sym (lt-ltb u s some))
       (le_or_lt s u)
 
   -- the bytes that the machine writes behind u # signs, and those of the rule
-  abbrev filledFrom : Bool → ℕ → List ℕ → List ℕ
-  filledFrom shown u bs = fill_bytes m im t (so_far shown u) bs
+  abbrev filled_from : Bool → ℕ → List ℕ → List ℕ
+  filled_from shown u bs = fill_bytes m im t (so_far shown u) bs
 
-  abbrev ruledFrom : ℕ → List ℕ → List ℕ → List ℕ
-  ruledFrom u bs text = ruled m (hidden_digits im t) u bs text
+  abbrev ruled_from : ℕ → List ℕ → List ℕ → List ℕ
+  ruled_from u bs text = ruled m (hidden_digits im t) u bs text
 
   -- they are the same for a # before the point
-  turns-hash : (u : ℕ) (bs text : List ℕ) → u < im.integer → filledFrom (ltb (hidden_digits im t) (u + 1)) (u + 1) bs ≡ ruledFrom (u + 1) bs text
-      → filledFrom (ltb (hidden_digits im t) u) u (hash_byte ∷ bs) ≡ ruledFrom u (hash_byte ∷ bs) ((zero_byte + get_or all_digits u 0) ∷ text)
+  turns_hash : (u : ℕ) (bs text : List ℕ) → u < im.integer → filled_from (ltb (hidden_digits im t) (u + 1)) (u + 1) bs ≡ ruled_from (u + 1) bs text
+      → filled_from (ltb (hidden_digits im t) u) u (hash_byte ∷ bs) ≡ ruled_from u (hash_byte ∷ bs) ((zero_byte + get_or all_digits u 0) ∷ text)
   unfolding fill_bytes fill_byte fill_next ruled
-  turns-hash u bs text inside next =
+  turns_hash u bs text inside next =
       let s = hidden_digits im t in
       let digit = zero_byte + get_or all_digits u 0 in
-      ap (λ (b : Bool). pick b m.filling digit ∷ filledFrom (not b) (u + 1) bs) (suppressed-is u inside)
-      ∙ ap (λ (b : Bool). pick (ltb u s) m.filling digit ∷ filledFrom b (u + 1) bs) (not_less u s)
+      ap (λ (b : Bool). pick b m.filling digit ∷ filled_from (not b) (u + 1) bs) (suppressed_is u inside)
+      ∙ ap (λ (b : Bool). pick (ltb u s) m.filling digit ∷ filled_from b (u + 1) bs) (not_less u s)
       ∙ ap (λ (l : List ℕ). pick (ltb u s) m.filling digit ∷ l) next
 
   -- for a comma there
-  turns-comma : (u : ℕ) (bs text : List ℕ) → filledFrom (ltb (hidden_digits im t) u) u bs ≡ ruledFrom u bs text
-      → filledFrom (ltb (hidden_digits im t) u) u (comma_byte ∷ bs) ≡ ruledFrom u (comma_byte ∷ bs) text
+  turns_comma : (u : ℕ) (bs text : List ℕ) → filled_from (ltb (hidden_digits im t) u) u bs ≡ ruled_from u bs text
+      → filled_from (ltb (hidden_digits im t) u) u (comma_byte ∷ bs) ≡ ruled_from u (comma_byte ∷ bs) text
   unfolding fill_bytes fill_byte fill_next ruled
-  turns-comma u bs text next = ap (λ (l : List ℕ). pick (ltb (hidden_digits im t) u) m.thousands m.filling ∷ l) next
+  turns_comma u bs text next = ap (λ (l : List ℕ). pick (ltb (hidden_digits im t) u) m.thousands m.filling ∷ l) next
 
   -- for the # signs and commas before the point
-  turns-body : {bs : List ℕ} {n : ℕ} → Body bs n → (u : ℕ) (r text : List ℕ) → u + n ≡ im.integer
-      → filledFrom (ltb (hidden_digits im t) im.integer) im.integer r ≡ ruledFrom im.integer r text
-      → filledFrom (ltb (hidden_digits im t) u) u (bs ++ r) ≡ ruledFrom u (bs ++ r) (digit_bytes (elements all_digits u n) ++ text)
+  turns_body : {bs : List ℕ} {n : ℕ} → Body bs n → (u : ℕ) (r text : List ℕ) → u + n ≡ im.integer
+      → filled_from (ltb (hidden_digits im t) im.integer) im.integer r ≡ ruled_from im.integer r text
+      → filled_from (ltb (hidden_digits im t) u) u (bs ++ r) ≡ ruled_from u (bs ++ r) (digit_bytes (elements all_digits u n) ++ text)
   unfolding elements digit_bytes
-  turns-body Body.end u r text e next = subst⁻¹ (λ (k : ℕ). filledFrom (ltb (hidden_digits im t) k) k r ≡ ruledFrom k r text) (omega arith) next
-  turns-body (Body.hash {bs} {n} b) u r text e next =
-      turns-hash u (bs ++ r) (digit_bytes (elements all_digits (u + 1) n) ++ text) (omega arith) (turns-body b (u + 1) r text (omega arith) next)
-  turns-body (Body.comma {bs} {n} b) u r text e next =
-      turns-comma u (bs ++ r) (digit_bytes (elements all_digits u n) ++ text) (turns-body b u r text e next)
+  turns_body Body.end u r text e next = subst⁻¹ (λ (k : ℕ). filled_from (ltb (hidden_digits im t) k) k r ≡ ruled_from k r text) (omega arith) next
+  turns_body (Body.hash {bs} {n} b) u r text e next =
+      turns_hash u (bs ++ r) (digit_bytes (elements all_digits (u + 1) n) ++ text) (omega arith) (turns_body b (u + 1) r text (omega arith) next)
+  turns_body (Body.comma {bs} {n} b) u r text e next =
+      turns_comma u (bs ++ r) (digit_bytes (elements all_digits u n) ++ text) (turns_body b u r text e next)
 
   -- for a # behind the point, where each digit is shown
-  turns-shown : (u : ℕ) (bs text : List ℕ) → im.integer ≤ u → filledFrom true (u + 1) bs ≡ ruledFrom (u + 1) bs text
-      → filledFrom true u (hash_byte ∷ bs) ≡ ruledFrom u (hash_byte ∷ bs) ((zero_byte + get_or all_digits u 0) ∷ text)
+  turns_shown : (u : ℕ) (bs text : List ℕ) → im.integer ≤ u → filled_from true (u + 1) bs ≡ ruled_from (u + 1) bs text
+      → filled_from true u (hash_byte ∷ bs) ≡ ruled_from u (hash_byte ∷ bs) ((zero_byte + get_or all_digits u 0) ∷ text)
   unfolding fill_bytes fill_byte fill_next ruled
-  turns-shown u bs text behind next =
+  turns_shown u bs text behind next =
       let digit = zero_byte + get_or all_digits u 0 in
       ap (λ (l : List ℕ). digit ∷ l) next
-      ∙ ap (λ (b : Bool). pick b m.filling digit ∷ ruledFrom (u + 1) bs text) (sym (le-ltb u (hidden_digits im t) (omega (arith, hidden-most))))
+      ∙ ap (λ (b : Bool). pick b m.filling digit ∷ ruled_from (u + 1) bs text) (sym (le-ltb u (hidden_digits im t) (omega (arith, hidden_most))))
 
   -- for all of them
-  turns-fraction : (n u : ℕ) → im.integer ≤ u
-      → filledFrom true u (times n hash_byte) ≡ ruledFrom u (times n hash_byte) (digit_bytes (elements all_digits u n))
+  turns_fraction : (n u : ℕ) → im.integer ≤ u
+      → filled_from true u (times n hash_byte) ≡ ruled_from u (times n hash_byte) (digit_bytes (elements all_digits u n))
   unfolding times elements digit_bytes fill_bytes ruled
-  turns-fraction zero u behind = refl
-  turns-fraction (suc n) u behind =
-      turns-shown u (times n hash_byte) (digit_bytes (elements all_digits (u + 1) n)) behind (turns-fraction n (u + 1) (omega arith))
+  turns_fraction zero u behind = refl
+  turns_fraction (suc n) u behind =
+      turns_shown u (times n hash_byte) (digit_bytes (elements all_digits (u + 1) n)) behind (turns_fraction n (u + 1) (omega arith))
 
   -- for the point and what stands behind it
-  turns-point : filledFrom (ltb (hidden_digits im t) im.integer) im.integer (fraction_bytes im.fraction)
-      ≡ ruledFrom im.integer (fraction_bytes im.fraction) (with_decimal m (fraction_text im.fraction t.whole))
+  turns_point : filled_from (ltb (hidden_digits im t) im.integer) im.integer (fraction_bytes im.fraction)
+      ≡ ruled_from im.integer (fraction_bytes im.fraction) (with_decimal m (fraction_text im.fraction t.whole))
   unfolding fraction_bytes fraction_text with_decimal fill_bytes fill_byte fill_next ruled
-  turns-point = go im.fraction refl
+  turns_point = go im.fraction refl
     where
       go : (f : ℕ) → im.fraction ≡ f
-          → filledFrom (ltb (hidden_digits im t) im.integer) im.integer (fraction_bytes f)
-          ≡ ruledFrom im.integer (fraction_bytes f) (with_decimal m (fraction_text f t.whole))
+          → filled_from (ltb (hidden_digits im t) im.integer) im.integer (fraction_bytes f)
+          ≡ ruled_from im.integer (fraction_bytes f) (with_decimal m (fraction_text f t.whole))
       go zero e = refl
       go (suc f) e =
           let i = im.integer in
@@ -354,48 +354,48 @@ module _ (m : Marks) (im : Image) (t : Truncated) (below : t.whole < 10 ^ hashes
           ap (λ (n : ℕ). digit_bytes (elements all_digits i n)) (sym e)
           ∙ ap digit_bytes (elements_behind im t)
           ∙ ap (λ (n : ℕ). digit_bytes (digits_of n t.whole)) e
-          ∙ sym (decimal-digits m (digits_of (suc f) t.whole)) in
+          ∙ sym (decimal_digits m (digits_of (suc f) t.whole)) in
           ap (λ (l : List ℕ). m.decimal ∷ l)
-          (turns-fraction (suc f) i (omega arith) ∙ ap (λ (l : List ℕ). ruledFrom i (times (suc f) hash_byte) l) same)
+          (turns_fraction (suc f) i (omega arith) ∙ ap (λ (l : List ℕ). ruled_from i (times (suc f) hash_byte) l) same)
 
   -- for the sign
-  turns-sign : (sign : Sign) (r text : List ℕ) → filledFrom false 0 r ≡ ruledFrom 0 r text
-      → filledFrom false 0 (sign_bytes sign ++ r) ≡ ruledFrom 0 (sign_bytes sign ++ r) (sign_text sign t.negative ++ text)
+  turns_sign : (sign : Sign) (r text : List ℕ) → filled_from false 0 r ≡ ruled_from 0 r text
+      → filled_from false 0 (sign_bytes sign ++ r) ≡ ruled_from 0 (sign_bytes sign ++ r) (sign_text sign t.negative ++ text)
   unfolding sign_bytes sign_text fill_bytes fill_byte fill_next sign_byte_of ruled
-  turns-sign Unsigned r text next = next
-  turns-sign Plus r text next = ap (λ (l : List ℕ). pick t.negative minus_byte plus_byte ∷ l) next
-  turns-sign Minus r text next = ap (λ (l : List ℕ). pick t.negative minus_byte blank_byte ∷ l) next
+  turns_sign Unsigned r text next = next
+  turns_sign Plus r text next = ap (λ (l : List ℕ). pick t.negative minus_byte plus_byte ∷ l) next
+  turns_sign Minus r text next = ap (λ (l : List ℕ). pick t.negative minus_byte blank_byte ∷ l) next
 
   -- the alpha text of a fixed-point image, with the decimal mark
-  pub text-parts : with_decimal m (alpha_text im t)
+  pub text_parts : with_decimal m (alpha_text im t)
       ≡ sign_text im.sign t.negative
       ++ (digit_bytes (digits_of im.integer (t.whole / 10 ^ im.fraction)) ++ with_decimal m (fraction_text im.fraction t.whole))
   unfolding alpha_text exponent_text
-  text-parts =
+  text_parts =
       let sign = sign_text im.sign t.negative in
       let digits = digits_of im.integer (t.whole / 10 ^ im.fraction) in
       let behind = fraction_text im.fraction t.whole in
       ap (λ (e : Bool). with_decimal m (sign ++ (digit_bytes digits ++ (behind ++ exponent_text e t)))) kind
       ∙ ap (λ (l : List ℕ). with_decimal m (sign ++ (digit_bytes digits ++ l))) (append-nil behind)
-      ∙ decimal-append m sign (digit_bytes digits ++ behind)
-      ∙ ap (λ (l : List ℕ). with_decimal m sign ++ l) (decimal-append m (digit_bytes digits) behind)
-      ∙ (λ i. decimal-sign m im.sign t.negative i ++ (decimal-digits m digits i ++ with_decimal m behind))
+      ∙ decimal_append m sign (digit_bytes digits ++ behind)
+      ∙ ap (λ (l : List ℕ). with_decimal m sign ++ l) (decimal_append m (digit_bytes digits) behind)
+      ∙ (λ i. decimal_sign m im.sign t.negative i ++ (decimal_digits m digits i ++ with_decimal m behind))
 
   -- so that they are the same for a whole field
-  turns-field : {bs : List ℕ} → Body bs im.integer
-      → filledFrom false 0 (sign_bytes im.sign ++ (bs ++ fraction_bytes im.fraction))
-      ≡ ruledFrom 0 (sign_bytes im.sign ++ (bs ++ fraction_bytes im.fraction)) (with_decimal m (alpha_text im t))
-  turns-field {bs} b =
+  turns_field : {bs : List ℕ} → Body bs im.integer
+      → filled_from false 0 (sign_bytes im.sign ++ (bs ++ fraction_bytes im.fraction))
+      ≡ ruled_from 0 (sign_bytes im.sign ++ (bs ++ fraction_bytes im.fraction)) (with_decimal m (alpha_text im t))
+  turns_field {bs} b =
       let s = hidden_digits im t in
       let rest = bs ++ fraction_bytes im.fraction in
       let behind = with_decimal m (fraction_text im.fraction t.whole) in
       let digits = digit_bytes (digits_of im.integer (t.whole / 10 ^ im.fraction)) in
-      let body : filledFrom false 0 rest ≡ ruledFrom 0 rest (digits ++ behind) =
-      ap (λ (shown : Bool). filledFrom shown 0 rest) (sym (le-ltb s 0 (omega arith)))
-      ∙ turns-body b 0 (fraction_bytes im.fraction) behind (omega arith) turns-point
-      ∙ ap (λ (l : List ℕ). ruledFrom 0 rest (digit_bytes l ++ behind)) (elements_before im t) in
-      turns-sign im.sign rest (digits ++ behind) body
-      ∙ ap (λ (l : List ℕ). ruledFrom 0 (sign_bytes im.sign ++ rest) l) (sym text-parts)
+      let body : filled_from false 0 rest ≡ ruled_from 0 rest (digits ++ behind) =
+      ap (λ (shown : Bool). filled_from shown 0 rest) (sym (le-ltb s 0 (omega arith)))
+      ∙ turns_body b 0 (fraction_bytes im.fraction) behind (omega arith) turns_point
+      ∙ ap (λ (l : List ℕ). ruled_from 0 rest (digit_bytes l ++ behind)) (elements_before im t) in
+      turns_sign im.sign rest (digits ++ behind) body
+      ∙ ap (λ (l : List ℕ). ruled_from 0 (sign_bytes im.sign ++ rest) l) (sym text_parts)
 
 -- Fixed-point fields.
 
@@ -413,9 +413,9 @@ fixed_rule : (m : Marks) (f : Field) (t : Truncated) → t.whole < 10 ^ hashes (
 fixed_rule m f t below kind =
     let im = field_image f in
     ap (fill_bytes m im t nothing_filled) (fixed_bytes f kind)
-    ∙ turns-field m im t below kind (runs_body f.runs)
+    ∙ turns_field m im t below kind (runs_body f.runs)
     ∙ ap (λ (l : List ℕ). ruled m (hidden_digits im t) 0 l (with_decimal m (alpha_text im t))) (sym (fixed_bytes f kind))
-    ∙ sym (rule-whole m im t (field_bytes f))
+    ∙ sym (rule_whole m im t (field_bytes f))
 
 -- Fields and their images.
 
@@ -508,8 +508,8 @@ exponential_rule m {field} {f} is t kind =
     let text = with_decimal m (alpha_text im t) in
     let whole : field ≡ image_bytes im = (exponential_image is kind).rendered in
     let none : length (without_commas field) ≡ length field = ap length (field_without_commas is) ∙ sym (ap length whole) in
-    let size : length field ≡ length text = ap length whole ∙ image_length im ∙ sym (decimal-length m (alpha_text im t) ∙ text_length_lem im t) in
-    sym (rule-whole m im t field ∙ ap (λ (s : ℕ). ruled m s 0 field text) (hidden_none im t kind) ∙ ruled_plain m 0 field text none size)
+    let size : length field ≡ length text = ap length whole ∙ image_length im ∙ sym (decimal_length m (alpha_text im t) ∙ text_length_lem im t) in
+    sym (rule_whole m im t field ∙ ap (λ (s : ℕ). ruled m s 0 field text) (hidden_none im t kind) ∙ ruled_plain m 0 field text none size)
 
 -- What a number prints.
 
@@ -540,7 +540,7 @@ shown_by_rule m {field} is t below = go (scanned_image field).exponential refl
 -- a truncation has at most n digits
 pub truncation_below : (im : Image) (n : Number) {t : Truncated} → truncation 0 im n ≡ done t → t.whole < 10 ^ hashes im
 unfolding truncated_to
-truncation_below im n h = subst⁻¹ (λ (t : Truncated). t.whole < 10 ^ hashes im) (truncation-done 0 im n h) (whole-size im n (truncation-fit 0 im n h))
+truncation_below im n h = subst⁻¹ (λ (t : Truncated). t.whole < 10 ^ hashes im) (truncation_done 0 im n h) (whole_size im n (truncation_fit 0 im n h))
 
 -- Published: so does a number, under any marks; and it is spilled where the rule says so.
 pub number_by_rule_lem : (m : Marks) {field : List ℕ} {f : Field} → IsField field f → (n : Number) → number_marked m field n ≡ number_by_rule m field n

@@ -11,14 +11,14 @@ use Rattle.decimal.specs.declared.image.Sign.TheVariants.{Unsigned, Plus, Minus}
 use Rattle.decimal.specs.Image.{State, Start, Signed, Integer, Comma, Point, Fraction, Up, Stopped}
 use Rattle.decimal.specs.Answer.{pick}
 use Rattle.decimal.specs.Image.{hash_byte, point_byte, comma_byte, up_byte, ups, sign_bytes, times, fraction_bytes, up_bytes, next_state, run_state}
-use Rattle.decimal.proofs.ImageTails.{ByteView, is_plus, is_minus, is_hash, is_point, is_comma, is_up, is_other, view, stopped-rejects, ups-behind}
+use Rattle.decimal.proofs.ImageTails.{ByteView, is_plus, is_minus, is_hash, is_point, is_comma, is_up, is_other, view, stopped_rejects, ups-behind}
 use Rattle.records.specs.Scanning.{Field, run_bytes, field_bytes, Positive, total, IsField, is_field_state}
 
 -- The machine that stopped.
 
 -- no field is found from there on
 halted : {A : Type 0} (bs : List ℕ) → is_field_state (run_state Stopped bs) ≡ true → A
-halted bs h = stopped-rejects is_field_state refl bs h
+halted bs h = stopped_rejects is_field_state refl bs h
 
 -- the same of a state that is this one
 halted_by : {A : Type 0} {s : State} (bs : List ℕ) → s ≡ Stopped → is_field_state (run_state s bs) ≡ true → A

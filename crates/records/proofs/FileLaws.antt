@@ -43,40 +43,40 @@ use Rattle.records.proofs.WritingLaws.{part_behind, put_behind, behind_all, part
 
 module _ (contents : List ℕ) (room : ℕ) where
   -- a contents that is refused is not written
-  pub starting-refused : {number place : ℕ} → read_alone contents ≡ refused number place → starting_file contents room ≡ refused number place
+  pub starting_refused : {number place : ℕ} → read_alone contents ≡ refused number place → starting_file contents room ≡ refused number place
   unfolding starting_file ◌then◌
-  starting-refused h = rw h
+  starting_refused h = rw h
 
   -- nor one that is longer than the buffer
-  pub starting-short : {table : Table} → read_alone contents ≡ done table → room < length contents → starting_file contents room ≡ refused 6 0
+  pub starting_short : {table : Table} → read_alone contents ≡ done table → room < length contents → starting_file contents room ≡ refused 6 0
   unfolding starting_file ◌then◌ within
-  starting-short h l = rw (h, lt-ltb room (length contents) l)
+  starting_short h l = rw (h, lt-ltb room (length contents) l)
 
   -- else it is the file
-  pub starting-done :
+  pub starting_done :
       {table : Table} → read_alone contents ≡ done table → length contents ≤ room → starting_file contents room ≡ done contents
   unfolding starting_file ◌then◌ within
-  starting-done h l = rw (h, le-ltb room (length contents) l)
+  starting_done h l = rw (h, le-ltb room (length contents) l)
 
 module _ (contents buffer : List ℕ) where
   -- a refused call gives the refusal, and the buffer stays
-  pub refuses-file :
+  pub refuses_file :
       {number place : ℕ}
       → starting_file contents (length buffer) ≡ refused number place
       → (refused number place ≡ sized (starting_file contents (length buffer)))
       × (buffer ≡ stored_in (starting_file contents (length buffer)) buffer)
   unfolding sized stored_in
-  refuses-file h = (sym (ap sized h), sym (ap (λ (k : Answer (List ℕ)). stored_in k buffer) h))
+  refuses_file h = (sym (ap sized h), sym (ap (λ (k : Answer (List ℕ)). stored_in k buffer) h))
 
   -- else the contents stands at the buffer's start
-  pub writes-file :
+  pub writes_file :
       {after : List ℕ}
       → starting_file contents (length buffer) ≡ done contents
       → after ≡ written buffer 0 contents
       → (done (length contents) ≡ sized (starting_file contents (length buffer)))
       × (after ≡ stored_in (starting_file contents (length buffer)) buffer)
   unfolding sized
-  writes-file h w = (sym (ap sized h), w ∙ written_stored buffer contents ∙ sym (ap (λ (k : Answer (List ℕ)). stored_in k buffer) h))
+  writes_file h w = (sym (ap sized h), w ∙ written_stored buffer contents ∙ sym (ap (λ (k : Answer (List ℕ)). stored_in k buffer) h))
 
 -- Reading a file.
 
@@ -93,24 +93,24 @@ pub record FileRead (file : List ℕ) (table : Table) : Type 0 where
 
 module _ (file : List ℕ) where
   -- a file is refused as its contents is
-  file-first : {number place : ℕ} → read_contents file ≡ refused number place → read_file file ≡ refused number place
+  file_first : {number place : ℕ} → read_contents file ≡ refused number place → read_file file ≡ refused number place
   unfolding read_file ◌then◌
-  file-first h = rw h
+  file_first h = rw h
 
   -- whole bodies behind its contents
-  pub file-done : {table : Table} → read_contents file ≡ done table → left_over_of table file ≡ 0 → read_file file ≡ done table
+  pub file_done : {table : Table} → read_contents file ≡ done table → left_over_of table file ≡ 0 → read_file file ≡ done table
   unfolding read_file ◌then◌
-  file-done {table} h w = rw (h, eq-eqb (left_over_of table file) 0 w)
+  file_done {table} h w = rw (h, eq-eqb (left_over_of table file) 0 w)
 
   -- a last body that is cut short
-  file-short : {table : Table} → read_contents file ≡ done table → (left_over_of table file ≡ 0 → ⊥) → read_file file ≡ refused 11 0
+  file_short : {table : Table} → read_contents file ≡ done table → (left_over_of table file ≡ 0 → ⊥) → read_file file ≡ refused 11 0
   unfolding read_file ◌then◌
-  file-short {table} h w = rw (h, ne_eqb (left_over_of table file) 0 w)
+  file_short {table} h w = rw (h, ne_eqb (left_over_of table file) 0 w)
 
   -- a file that is read has a contents, and whole bodies behind it
-  pub file-told : {table : Table} → read_file file ≡ done table → FileRead file table
+  pub file_told : {table : Table} → read_file file ≡ done table → FileRead file table
   unfolding read_file
-  file-told {table} h =
+  file_told {table} h =
       let b = then_done (read_contents file) (λ (t : Table). pick (eqb (left_over_of t file) 0) (done t) (refused 11 0)) h in
       go b.value (eqb (left_over_of b.value file) 0) refl b.first b.second
     where
@@ -134,7 +134,7 @@ module _ (file : List ℕ) where
   module _ (r : Contents) (h : r ≡ contents_of (read_contents file)) where
     -- so the code's answer is the file's where the contents is refused
     pub file-stops : (refusal : Refusal) → r.answer ≡ checks.Refused refusal → r ≡ contents_of (read_file file)
-    file-stops refusal e = let q = told_refused (read_contents file) r refusal h e in h ∙ ap contents_of (q ∙ sym (file-first q))
+    file-stops refusal e = let q = told_refused (read_contents file) r refusal h e in h ∙ ap contents_of (q ∙ sym (file_first q))
 
     -- its own length is within the file
     pub size-within : r.answer ≡ checks.Fine → r.size ≤ length file
@@ -155,44 +155,44 @@ module _ (file : List ℕ) where
 
       -- the answer is the file's where there are none
       pub file-whole : (length file - r.size) % r.body ≡ 0 → r ≡ contents_of (read_file file)
-      file-whole w = h ∙ ap contents_of (told.reads ∙ sym (file-done told.reads (sym left_over ∙ w)))
+      file-whole w = h ∙ ap contents_of (told.reads ∙ sym (file_done told.reads (sym left_over ∙ w)))
 
       -- else the file is refused
       pub file-torn : ((length file - r.size) % r.body ≡ 0 → ⊥) → read_file file ≡ refused 11 0
-      file-torn w = file-short told.reads (λ z. w (left_over ∙ z))
+      file-torn w = file_short told.reads (λ z. w (left_over ∙ z))
 
 module _ (buffer : List ℕ) (used : ℕ) where
   -- a used length past the buffer
-  pub used-past : length buffer < used → read_used buffer used ≡ refused 11 0
+  pub used_past : length buffer < used → read_used buffer used ≡ refused 11 0
   unfolding read_used
-  used-past h = rw (lt-ltb (length buffer) used h)
+  used_past h = rw (lt-ltb (length buffer) used h)
 
   -- else the file in the first bytes
-  pub used-within : used ≤ length buffer → read_used buffer used ≡ read_file (take used buffer)
+  pub used_within : used ≤ length buffer → read_used buffer used ≡ read_file (take used buffer)
   unfolding read_used
-  used-within h = rw (le-ltb (length buffer) used h)
+  used_within h = rw (le-ltb (length buffer) used h)
 
 -- Showing a record.
 
 module _ (file : List ℕ) (r : ℕ) where
   -- refused as the file is
-  pub shown-refused : {number place : ℕ} → read_file file ≡ refused number place → shown file r ≡ refused number place
+  pub shown_refused : {number place : ℕ} → read_file file ≡ refused number place → shown file r ≡ refused number place
   unfolding shown ◌then◌
-  shown-refused h = rw h
+  shown_refused h = rw h
 
   -- there is no such record
-  pub shown-none : {table : Table} → read_file file ≡ done table → record_count table file ≤ r → shown file r ≡ refused 12 0
+  pub shown_none : {table : Table} → read_file file ≡ done table → record_count table file ≤ r → shown file r ≡ refused 12 0
   unfolding shown ◌then◌
-  shown-none {table} h l = rw (h, le-ltb r (record_count table file) l)
+  shown_none {table} h l = rw (h, le-ltb r (record_count table file) l)
 
   -- else its body is a part of the file
-  pub shown-there :
+  pub shown_there :
       {table : Table}
       → read_file file ≡ done table
       → r < record_count table file
       → shown file r ≡ done (record { start = table.size + r * body_size table.images; size = body_size table.images })
   unfolding shown ◌then◌
-  shown-there {table} h l = rw (h, lt-ltb r (record_count table file) l)
+  shown_there {table} h l = rw (h, lt-ltb r (record_count table file) l)
 
 -- a whole body before the last ends within the bytes
 bodies_inside : (n size i : ℕ) → 0 < size → i < n / size → i * size + size ≤ n
@@ -206,7 +206,7 @@ pub record_inside :
     → table.size + r * body_size table.images + body_size table.images ≤ length file
 unfolding record_count
 record_inside file r {table} h l =
-    let f = file-told file h in
+    let f = file_told file h in
     let inside = bodies_inside (length file - table.size) (body_size table.images) r f.some l in
     omega (arith, f.within)
 
@@ -236,44 +236,44 @@ shown_inside file r {p} h =
 
 module _ (file : List ℕ) (r : Contents) (h : r ≡ contents_of (read_file file)) (e : r.answer ≡ checks.Fine) where
   -- what the code has read of a file
-  file-table : Table
-  file-table = (told_read (read_file file) r h e).table
+  file_table : Table
+  file_table = (told_read (read_file file) r h e).table
 
-  file-reads : read_file file ≡ done file-table
-  unfolding file-table
-  file-reads = (told_read (read_file file) r h e).reads
+  file_reads : read_file file ≡ done file_table
+  unfolding file_table
+  file_reads = (told_read (read_file file) r h e).reads
 
-  file-size : r.size ≡ file-table.size
-  unfolding file-table
-  file-size = (told_read (read_file file) r h e).size
+  file_size : r.size ≡ file_table.size
+  unfolding file_table
+  file_size = (told_read (read_file file) r h e).size
 
-  file-body : r.body ≡ body_size file-table.images
-  unfolding file-table
-  file-body = (told_read (read_file file) r h e).body
+  file_body : r.body ≡ body_size file_table.images
+  unfolding file_table
+  file_body = (told_read (read_file file) r h e).body
 
   -- its contents is within it, and a body is not empty
-  pub read-within : r.size ≤ length file
-  read-within = omega (arith, file-size, (file-told file file-reads).within)
+  pub read_within : r.size ≤ length file
+  read_within = omega (arith, file_size, (file_told file file_reads).within)
 
   pub read_some : 0 < r.body
-  read_some = omega (arith, file-body, (file-told file file-reads).some)
+  read_some = omega (arith, file_body, (file_told file file_reads).some)
 
   -- the count of its records
-  read_count : (length file - r.size) / r.body ≡ record_count file-table file
+  read_count : (length file - r.size) / r.body ≡ record_count file_table file
   unfolding record_count
-  read_count = λ i. (length file - file-size i) / file-body i
+  read_count = λ i. (length file - file_size i) / file_body i
 
   module _ (index : ℕ) where
     -- where there is no such record
     pub read_none : (length file - r.size) / r.body ≤ index → shown file index ≡ refused 12 0
-    read_none l = shown-none file index file-reads (omega (arith, read_count))
+    read_none l = shown_none file index file_reads (omega (arith, read_count))
 
     module _ (l : index < (length file - r.size) / r.body) where
       -- and where there is
       pub read-shown : shown file index ≡ done (record { start = r.size + index * r.body; size = r.body })
       read-shown =
-          shown-there file index file-reads (omega (arith, read_count))
-          ∙ λ i. done (record { start = sym file-size i + index * sym file-body i; size = sym file-body i })
+          shown_there file index file_reads (omega (arith, read_count))
+          ∙ λ i. done (record { start = sym file_size i + index * sym file_body i; size = sym file_body i })
 
       -- its body ends within the file
       pub read_inside : r.size + index * r.body + r.body ≤ length file
@@ -298,17 +298,17 @@ part_refused file r h = sym (ap (part_of file) h)
 
 module _ (buffer : List ℕ) (used : ℕ) (ns : List Number) where
   -- refused as the file is
-  pub added-refused : {number place : ℕ} → read_used buffer used ≡ refused number place → added buffer used ns ≡ refused number place
+  pub added_refused : {number place : ℕ} → read_used buffer used ≡ refused number place → added buffer used ns ≡ refused number place
   unfolding added ◌then◌
-  added-refused h = rw h
+  added_refused h = rw h
 
   -- else the list is packed into what follows the used length
-  pub added-packed :
+  pub added_packed :
       {table : Table}
       → read_used buffer used ≡ done table
       → added buffer used ns ≡ (pack_list table.images ns then within (length buffer - used))
   unfolding added ◌then◌
-  added-packed h = rw h
+  added_packed h = rw h
 
 -- a file that is read in the first bytes of a buffer
 pub used_told :
@@ -388,7 +388,7 @@ pub adds_refused :
     → (refused number place ≡ new_length used (added buffer used ns)) × (buffer ≡ written_behind used (added buffer used ns) buffer)
 unfolding new_length written_behind
 adds_refused buffer used ns h =
-    let r = added-refused buffer used ns h in
+    let r = added_refused buffer used ns h in
     (sym (ap (new_length used) r), sym (ap (λ (a : Answer (List ℕ)). written_behind used a buffer) r))
 
 module _
@@ -408,14 +408,14 @@ module _
     unfolding packing_under
     adds-under =
         let t = told_read (read_used buffer used) r h e in
-        let contents = (file-told (take used buffer) (used_told buffer used t.reads).1).contents in
+        let contents = (file_told (take used buffer) (used_told buffer used t.reads).1).contents in
         let images : image_list r.images ≡ t.table.images =
         told_images t.table (contents_sound (take used buffer) contents).high (h ∙ ap contents_of t.reads) in
         let packs : pack_under (image_list r.images) ns ≡ pack_list t.table.images ns =
         ap (λ (ims : List Image). pack_under ims ns) images
         ∙ pack_under_checked t.table.images ns (contents_checks (take used buffer) contents) in
         let room : length (part_behind buffer used) ≡ length buffer - used = ap length (behind_all buffer used) ∙ length-drop used buffer in
-        (λ i. packs i then within (room i)) ∙ sym (added-packed buffer used ns t.reads)
+        (λ i. packs i then within (room i)) ∙ sym (added_packed buffer used ns t.reads)
 
     module _
         {answer : Answer ℕ} {after : List ℕ}

@@ -22,7 +22,7 @@ use Rattle.codec.proofs.BodyLaws.{packed_length}
 use Rattle.codec.proofs.ReadBackTheorem.{read_back}
 use Rattle.records.specs.Files.{starting_file, read_file, record_count, bodies, bodies_in, added, shown, part_of, shown_part}
 use Rattle.records.specs.Adding.{file_before, file_after, Adds, Starts}
-use Rattle.records.proofs.FileLaws.{FileRead, file-done, file-told, record_inside, shown-there, within_told, added_told}
+use Rattle.records.proofs.FileLaws.{FileRead, file_done, file_told, record_inside, shown_there, within_told, added_told}
 
 -- so many whole bodies and one more
 bodies_more :
@@ -61,14 +61,14 @@ pub record_at :
 unfolding part_of bodies_in
 record_at file r {table} reads h =
     let size : ℕ = body_size table.images in
-    ap (part_of file) (shown-there file r reads h)
+    ap (part_of file) (shown_there file r reads h)
     ∙ ap (take size) (sym (drop-drop (r * size) table.size file))
     ∙ sym (bodies_at (record_count table file) size r (drop table.size file) h)
 
 module _ (file body : List ℕ) (table : Table) (reads : read_file file ≡ done table) (long : length body ≡ body_size table.images) where
   -- what the file tells
   told : FileRead file table
-  told = file-told file reads
+  told = file_told file reads
 
   -- the bytes of its bodies
   abbrev behind : ℕ
@@ -83,47 +83,47 @@ module _ (file body : List ℕ) (table : Table) (reads : read_file file ≡ done
   behind_more = omega (arith, length-append file body, told.within, one-mul (body_size table.images))
 
   -- its bodies fill them
-  count-fills : count * body_size table.images ≡ behind
+  count_fills : count * body_size table.images ≡ behind
   unfolding record_count
-  count-fills = let whole = div-add-mod' behind (body_size table.images) in omega (arith, told.whole)
+  count_fills = let whole = div-add-mod' behind (body_size table.images) in omega (arith, told.whole)
 
   -- so the next record starts at its end
-  count-ends : table.size + count * body_size table.images ≡ length file
-  count-ends = omega (arith, count-fills, told.within)
+  count_ends : table.size + count * body_size table.images ≡ length file
+  count_ends = omega (arith, count_fills, told.within)
 
   -- the file with one more record is a file
-  more-reads : read_file (file ++ body) ≡ done table
-  more-reads =
-      file-done (file ++ body)
+  more_reads : read_file (file ++ body) ≡ done table
+  more_reads =
+      file_done (file ++ body)
       (contents_same file (file ++ body) told.contents (take-append-le table.size file body told.within))
       (ap (λ (k : ℕ). k % body_size table.images) behind_more ∙ add-mul-mod_self_right behind 1 (body_size table.images) ∙ told.whole)
 
   -- of one more record
-  more-count : record_count table (file ++ body) ≡ suc count
+  more_count : record_count table (file ++ body) ≡ suc count
   unfolding record_count
-  more-count =
+  more_count =
       ap (λ (k : ℕ). k / body_size table.images) behind_more
       ∙ add-mul-div_right behind 1 told.some
       ∙ omega arith
 
   -- which is shown behind the file
-  more-shown : shown (file ++ body) count ≡ done (record { start = length file; size = length body })
-  more-shown =
-      shown-there (file ++ body) count more-reads (omega (arith, more-count))
-      ∙ λ i. done (record { start = count-ends i; size = sym long i })
+  more_shown : shown (file ++ body) count ≡ done (record { start = length file; size = length body })
+  more_shown =
+      shown_there (file ++ body) count more_reads (omega (arith, more_count))
+      ∙ λ i. done (record { start = count_ends i; size = sym long i })
 
   -- with its bytes
-  more-part : shown_part (file ++ body) count ≡ body
+  more_part : shown_part (file ++ body) count ≡ body
   unfolding part_of
-  more-part =
-      ap (part_of (file ++ body)) more-shown
+  more_part =
+      ap (part_of (file ++ body)) more_shown
       ∙ ap (take (length body)) (drop_at file body (length file) refl)
       ∙ take-length body
 
   module _ (r : ℕ) (h : r < count) where
     -- an earlier record is shown at the same place
     more-earlier : shown (file ++ body) r ≡ shown file r
-    more-earlier = shown-there (file ++ body) r more-reads (omega (arith, more-count)) ∙ sym (shown-there file r reads h)
+    more-earlier = shown_there (file ++ body) r more_reads (omega (arith, more_count)) ∙ sym (shown_there file r reads h)
 
     -- with the same bytes
     more-unchanged : shown_part (file ++ body) r ≡ shown_part file r
@@ -133,17 +133,17 @@ module _ (file body : List ℕ) (table : Table) (reads : read_file file ≡ done
         let start : ℕ = table.size + r * body_size table.images in
         let inside : start + size ≤ length file = record_inside file r reads h in
         let left : size ≤ length (drop start file) = omega (arith, length-drop start file) in
-        ap (part_of (file ++ body)) (shown-there (file ++ body) r more-reads (omega (arith, more-count)))
+        ap (part_of (file ++ body)) (shown_there (file ++ body) r more_reads (omega (arith, more_count)))
         ∙ ap (take size) (drop-append-le start file body (omega arith))
         ∙ take-append-le size (drop start file) body left
-        ∙ sym (ap (part_of file) (shown-there file r reads h))
+        ∙ sym (ap (part_of file) (shown_there file r reads h))
 
   -- the bodies in order
-  more-bodies : bodies_in table (file ++ body) ≡ bodies_in table file ++ body ∷ []
+  more_bodies : bodies_in table (file ++ body) ≡ bodies_in table file ++ body ∷ []
   unfolding bodies_in
-  more-bodies =
-      ap₂ (λ (n : ℕ) (l : List ℕ). bodies n (body_size table.images) l) more-count (drop-append-le table.size file body told.within)
-      ∙ bodies_more count (body_size table.images) (drop table.size file) body (length-drop table.size file ∙ sym count-fills) long
+  more_bodies =
+      ap₂ (λ (n : ℕ) (l : List ℕ). bodies n (body_size table.images) l) more_count (drop-append-le table.size file body told.within)
+      ∙ bodies_more count (body_size table.images) (drop table.size file) body (length-drop table.size file ∙ sym count_fills) long
 
 -- the body that a list packs to, put behind a file
 grown :
@@ -154,22 +154,22 @@ grown :
     → Adds used ns body file (file ++ body)
 grown used file body ns table size reads packs =
     let long : length body ≡ body_size table.images = packed_length table.images ns packs in
-    let back = read_back (contents_sound file (file-told file reads).contents).all packs in
+    let back = read_back (contents_sound file (file_told file reads).contents).all packs in
     record {
       length_before = size;
       length_after = length-append file body ∙ ap (λ (k : ℕ). k + length body) size;
       table = table;
       reads_before = reads;
-      reads_after = more-reads file body table reads long;
-      counted = more-count file body table reads long;
-      shows = more-shown file body table reads long ∙ λ i. done (record { start = size i; size = length body });
-      part = more-part file body table reads long;
+      reads_after = more_reads file body table reads long;
+      counted = more_count file body table reads long;
+      shows = more_shown file body table reads long ∙ λ i. done (record { start = size i; size = length body });
+      part = more_part file body table reads long;
       numbers = back.0;
       unpacks = back.2;
       truncations = back.1;
       earlier = more-earlier file body table reads long;
       unchanged = more-unchanged file body table reads long;
-      in_order = more-bodies file body table reads long;
+      in_order = more_bodies file body table reads long;
     }
 
 -- the new used length holds the file and the body behind it
@@ -224,7 +224,7 @@ alone_starts contents {table} h =
         let fills : t.size ≡ length contents = eqb-true t.size (length contents) e in
         let left : length contents - t.size ≡ 0 = omega arith in
         let none = none_behind (length contents - t.size) (body_size t.images) left in
-        starts_with contents t (file-done contents read none.0) none.1
+        starts_with contents t (file_done contents read none.0) none.1
     go t false e read q = never_done q
 
 -- A contents that is written is a file without records.

@@ -28,7 +28,7 @@ use Rattle.records.specs.Scanning.{run_bytes, total}
 use Rattle.records.specs.declared.marks.Marks.{Marks}
 use Rattle.records.specs.Marks.{ValidMarks, without_marks}
 use Rattle.records.specs.Fields.{suppressed, fill_byte, fill_next, fill_bytes, sign_byte_of}
-use Rattle.records.proofs.MarkLaws.{drops-blank, drops-filling, drops-thousands, keeps-digit, keeps-plus, keeps-minus, keeps-decimal}
+use Rattle.records.proofs.MarkLaws.{drops_blank, drops_filling, drops_thousands, keeps_digit, keeps_plus, keeps_minus, keeps_decimal}
 
 -- what was filled so far
 abbrev pub so_far : Bool → ℕ → Fill
@@ -81,23 +81,23 @@ elements_behind im t =
 
 module _ {m : Marks} (valid : ValidMarks m) where
   -- digits stay
-  pub marks-digits : (ds : List ℕ) → Digits ds → (r : List ℕ) → without_marks m (digit_bytes ds ++ r) ≡ digit_bytes ds ++ without_marks m r
+  pub marks_digits : (ds : List ℕ) → Digits ds → (r : List ℕ) → without_marks m (digit_bytes ds ++ r) ≡ digit_bytes ds ++ without_marks m r
   unfolding Digits digit_bytes
-  marks-digits [] h r = refl
-  marks-digits (d ∷ ds) h r =
-      keeps-digit valid (digit_bytes ds ++ r) d h.0 ∙ ap (λ (l : List ℕ). (zero_byte + d) ∷ l) (marks-digits ds h.1 r)
+  marks_digits [] h r = refl
+  marks_digits (d ∷ ds) h r =
+      keeps_digit valid (digit_bytes ds ++ r) d h.0 ∙ ap (λ (l : List ℕ). (zero_byte + d) ∷ l) (marks_digits ds h.1 r)
 
   -- a sign under + stays
-  pub marks-plus : (negative : Bool) (r : List ℕ) → without_marks m (pick negative minus_byte plus_byte ∷ r) ≡ sign_bytes (pick negative Minus Plus) ++ without_marks m r
+  pub marks_plus : (negative : Bool) (r : List ℕ) → without_marks m (pick negative minus_byte plus_byte ∷ r) ≡ sign_bytes (pick negative Minus Plus) ++ without_marks m r
   unfolding sign_bytes
-  marks-plus true r = keeps-minus valid r
-  marks-plus false r = keeps-plus valid r
+  marks_plus true r = keeps_minus valid r
+  marks_plus false r = keeps_plus valid r
 
   -- under − the minus stays and the blank goes
-  pub marks-minus : (negative : Bool) (r : List ℕ) → without_marks m (pick negative minus_byte blank_byte ∷ r) ≡ sign_bytes (pick negative Minus Unsigned) ++ without_marks m r
+  pub marks_minus : (negative : Bool) (r : List ℕ) → without_marks m (pick negative minus_byte blank_byte ∷ r) ≡ sign_bytes (pick negative Minus Unsigned) ++ without_marks m r
   unfolding sign_bytes
-  marks-minus true r = keeps-minus valid r
-  marks-minus false r = drops-blank m r
+  marks_minus true r = keeps_minus valid r
+  marks_minus false r = drops_blank m r
 
 -- # signs and commas, with the count of the # signs
 pub data Body : List ℕ → ℕ → Type 0 where
@@ -126,58 +126,58 @@ runs_body (n ∷ (m ∷ ns)) = hashes_body n (comma (runs_body (m ∷ ns)))
 
 module _ {m : Marks} (valid : ValidMarks m) (im : Image) (t : Truncated) where
   -- the digit at a place
-  abbrev digitAt : ℕ → ℕ
-  digitAt u = get_or (digits_under im t) u 0
+  abbrev digit_at : ℕ → ℕ
+  digit_at u = get_or (digits_under im t) u 0
 
   -- it is a digit
-  digit-at-below : (u : ℕ) → digitAt u < 10
-  digit-at-below u = digit_below (digits_under im t) (digits_are_digits (hashes im) t.whole) u
+  digit_at_below : (u : ℕ) → digit_at u < 10
+  digit_at_below u = digit_below (digits_under im t) (digits_are_digits (hashes im) t.whole) u
 
   -- a # that becomes a filling byte
-  hash-blank : (u : ℕ) (bs : List ℕ) → (eqb (digitAt u) 0 && ltb (u + 1) im.integer) ≡ true → marked m im t false u (hash_byte ∷ bs) ≡ marked m im t false (u + 1) bs
+  hash_blank : (u : ℕ) (bs : List ℕ) → (eqb (digit_at u) 0 && ltb (u + 1) im.integer) ≡ true → marked m im t false u (hash_byte ∷ bs) ≡ marked m im t false (u + 1) bs
   unfolding marked fill_bytes fill_byte fill_next
-  hash-blank u bs h = rw h (drops-filling m (fill_bytes m im t (so_far false (u + 1)) bs))
+  hash_blank u bs h = rw h (drops_filling m (fill_bytes m im t (so_far false (u + 1)) bs))
 
   -- a # that becomes a digit
-  hash-digit : (s : Bool) (u : ℕ) (bs : List ℕ) → suppressed im t (so_far s u) ≡ false
-      → marked m im t s u (hash_byte ∷ bs) ≡ (zero_byte + digitAt u) ∷ marked m im t true (u + 1) bs
+  hash_digit : (s : Bool) (u : ℕ) (bs : List ℕ) → suppressed im t (so_far s u) ≡ false
+      → marked m im t s u (hash_byte ∷ bs) ≡ (zero_byte + digit_at u) ∷ marked m im t true (u + 1) bs
   unfolding marked fill_bytes fill_byte fill_next
-  hash-digit s u bs h = rw h (keeps-digit valid (fill_bytes m im t (so_far true (u + 1)) bs) (digitAt u) (digit-at-below u))
+  hash_digit s u bs h = rw h (keeps_digit valid (fill_bytes m im t (so_far true (u + 1)) bs) (digit_at u) (digit_at_below u))
 
   -- a thousands mark goes, or its filling byte
-  comma-gone : (s : Bool) (u : ℕ) (bs : List ℕ) → marked m im t s u (comma_byte ∷ bs) ≡ marked m im t s u bs
+  comma_gone : (s : Bool) (u : ℕ) (bs : List ℕ) → marked m im t s u (comma_byte ∷ bs) ≡ marked m im t s u bs
   unfolding marked fill_bytes fill_byte fill_next
-  comma-gone true u bs = drops-thousands m (fill_bytes m im t (so_far true u) bs)
-  comma-gone false u bs = drops-filling m (fill_bytes m im t (so_far false u) bs)
+  comma_gone true u bs = drops_thousands m (fill_bytes m im t (so_far true u) bs)
+  comma_gone false u bs = drops_filling m (fill_bytes m im t (so_far false u) bs)
 
   -- a decimal mark is a point
-  point-stays : (s : Bool) (u : ℕ) (bs : List ℕ) → marked m im t s u (point_byte ∷ bs) ≡ point_byte ∷ marked m im t true u bs
+  point_stays : (s : Bool) (u : ℕ) (bs : List ℕ) → marked m im t s u (point_byte ∷ bs) ≡ point_byte ∷ marked m im t true u bs
   unfolding marked fill_bytes fill_byte fill_next
-  point-stays s u bs = keeps-decimal valid (fill_bytes m im t (so_far true u) bs)
+  point_stays s u bs = keeps_decimal valid (fill_bytes m im t (so_far true u) bs)
 
   -- the end
-  marked-end : (s : Bool) (u : ℕ) → marked m im t s u [] ≡ []
+  marked_end : (s : Bool) (u : ℕ) → marked m im t s u [] ≡ []
   unfolding marked fill_bytes without_marks
-  marked-end s u = refl
+  marked_end s u = refl
 
   -- the sign
-  pub marked-sign : (sign : Sign) (bs : List ℕ)
+  pub marked_sign : (sign : Sign) (bs : List ℕ)
       → marked m im t false 0 (sign_bytes sign ++ bs) ≡ sign_bytes (alpha_sign sign t.negative) ++ marked m im t false 0 bs
   unfolding marked fill_bytes fill_byte fill_next sign_byte_of sign_bytes alpha_sign
-  marked-sign Unsigned bs = refl
-  marked-sign Plus bs = marks-plus valid t.negative (fill_bytes m im t (so_far false 0) bs)
-  marked-sign Minus bs = marks-minus valid t.negative (fill_bytes m im t (so_far false 0) bs)
+  marked_sign Unsigned bs = refl
+  marked_sign Plus bs = marks_plus valid t.negative (fill_bytes m im t (so_far false 0) bs)
+  marked_sign Minus bs = marks_minus valid t.negative (fill_bytes m im t (so_far false 0) bs)
 
   -- where a digit was shown, all digits are
-  fill-shown : {bs : List ℕ} {n : ℕ} → Body bs n → (u : ℕ) (r : List ℕ)
+  fill_shown : {bs : List ℕ} {n : ℕ} → Body bs n → (u : ℕ) (r : List ℕ)
       → marked m im t true u (bs ++ r) ≡ digit_bytes (elements (digits_under im t) u n) ++ marked m im t true (u + n) r
   unfolding elements digit_bytes
-  fill-shown end u r = ap (λ (k : ℕ). marked m im t true k r) (omega arith)
-  fill-shown (hash {bs} {n} b) u r =
-      hash-digit true u (bs ++ r) refl
-      ∙ ap (λ (l : List ℕ). (zero_byte + digitAt u) ∷ l) (fill-shown b (u + 1) r)
-      ∙ ap (λ (k : ℕ). (zero_byte + digitAt u) ∷ (digit_bytes (elements (digits_under im t) (u + 1) n) ++ marked m im t true k r)) (omega arith)
-  fill-shown (comma {bs} {n} b) u r = comma-gone true u (bs ++ r) ∙ fill-shown b u r
+  fill_shown end u r = ap (λ (k : ℕ). marked m im t true k r) (omega arith)
+  fill_shown (hash {bs} {n} b) u r =
+      hash_digit true u (bs ++ r) refl
+      ∙ ap (λ (l : List ℕ). (zero_byte + digit_at u) ∷ l) (fill_shown b (u + 1) r)
+      ∙ ap (λ (k : ℕ). (zero_byte + digit_at u) ∷ (digit_bytes (elements (digits_under im t) (u + 1) n) ++ marked m im t true k r)) (omega arith)
+  fill_shown (comma {bs} {n} b) u r = comma_gone true u (bs ++ r) ∙ fill_shown b u r
 
   -- where none was shown, some zeros are left out, but not all digits
   pub record Hidden (bs : List ℕ) (u n : ℕ) (r : List ℕ) : Type 0 where
@@ -189,9 +189,9 @@ module _ {m : Marks} (valid : ValidMarks m) (im : Image) (t : Truncated) where
     pub shows : marked m im t false u (bs ++ r) ≡ digit_bytes digits ++ marked m im t then-shown (u + n) r
 
   -- so it is with # signs and commas up to the point
-  pub fill-hidden : {bs : List ℕ} {n : ℕ} → Body bs n → (u : ℕ) (r : List ℕ) → u + n ≡ im.integer → Hidden bs u n r
+  pub fill_hidden : {bs : List ℕ} {n : ℕ} → Body bs n → (u : ℕ) (r : List ℕ) → u + n ≡ im.integer → Hidden bs u n r
   unfolding elements digit_bytes zeros
-  fill-hidden end u r e =
+  fill_hidden end u r e =
       record {
         count = 0;
         digits = [];
@@ -200,23 +200,23 @@ module _ {m : Marks} (valid : ValidMarks m) (im : Image) (t : Truncated) where
         some = λ h. absurd (omega arith);
         shows = ap (λ (k : ℕ). marked m im t false k r) (omega arith);
       }
-  fill-hidden (comma {bs} {n} b) u r e =
-      let rest = fill-hidden b u r e in
+  fill_hidden (comma {bs} {n} b) u r e =
+      let rest = fill_hidden b u r e in
       record {
         count = rest.count;
         digits = rest.digits;
         then-shown = rest.then-shown;
         all = rest.all;
         some = rest.some;
-        shows = comma-gone false u (bs ++ r) ∙ rest.shows;
+        shows = comma_gone false u (bs ++ r) ∙ rest.shows;
       }
-  fill-hidden (hash {bs} {n} b) u r e = go (fill-hidden b (u + 1) r (omega arith)) (eqb (digitAt u) 0 && ltb (u + 1) im.integer) refl
+  fill_hidden (hash {bs} {n} b) u r e = go (fill_hidden b (u + 1) r (omega arith)) (eqb (digit_at u) 0 && ltb (u + 1) im.integer) refl
     where
-      go : Hidden bs (u + 1) n r → (k : Bool) → (eqb (digitAt u) 0 && ltb (u + 1) im.integer) ≡ k → Hidden (hash_byte ∷ bs) u (suc n) r
+      go : Hidden bs (u + 1) n r → (k : Bool) → (eqb (digit_at u) 0 && ltb (u + 1) im.integer) ≡ k → Hidden (hash_byte ∷ bs) u (suc n) r
       go rest true h =
-          let both = and_true (eqb (digitAt u) 0) (ltb (u + 1) im.integer) h in
+          let both = and_true (eqb (digit_at u) 0) (ltb (u + 1) im.integer) h in
           let more : u + 1 < im.integer = ltb-true (u + 1) im.integer both.1 in
-          let nought : digitAt u ≡ 0 = eqb-true (digitAt u) 0 both.0 in
+          let nought : digit_at u ≡ 0 = eqb-true (digit_at u) 0 both.0 in
           record {
             count = suc rest.count;
             digits = rest.digits;
@@ -224,7 +224,7 @@ module _ {m : Marks} (valid : ValidMarks m) (im : Image) (t : Truncated) where
             all = λ i. nought i ∷ rest.all i;
             some = λ z. rest.some (omega arith);
             shows =
-                hash-blank u (bs ++ r) h
+                hash_blank u (bs ++ r) h
                 ∙ rest.shows
                 ∙ ap (λ (k : ℕ). digit_bytes rest.digits ++ marked m im t rest.then-shown k r) (omega arith);
           }
@@ -236,26 +236,26 @@ module _ {m : Marks} (valid : ValidMarks m) (im : Image) (t : Truncated) where
             all = refl;
             some = λ z. omega arith;
             shows =
-                hash-digit false u (bs ++ r) h
-                ∙ ap (λ (l : List ℕ). (zero_byte + digitAt u) ∷ l) (fill-shown b (u + 1) r)
-                ∙ ap (λ (k : ℕ). (zero_byte + digitAt u) ∷ (digit_bytes (elements (digits_under im t) (u + 1) n) ++ marked m im t true k r)) (omega arith);
+                hash_digit false u (bs ++ r) h
+                ∙ ap (λ (l : List ℕ). (zero_byte + digit_at u) ∷ l) (fill_shown b (u + 1) r)
+                ∙ ap (λ (k : ℕ). (zero_byte + digit_at u) ∷ (digit_bytes (elements (digits_under im t) (u + 1) n) ++ marked m im t true k r)) (omega arith);
           }
 
   -- the point and the digits behind it
-  pub fill-fraction : (s : Bool) → marked m im t s im.integer (fraction_bytes im.fraction) ≡ point_bytes (alpha_point im.fraction t.whole)
+  pub fill_fraction : (s : Bool) → marked m im t s im.integer (fraction_bytes im.fraction) ≡ point_bytes (alpha_point im.fraction t.whole)
   unfolding fraction_bytes point_bytes alpha_point
-  fill-fraction s = go im.fraction refl
+  fill_fraction s = go im.fraction refl
     where
       go : (f : ℕ) → im.fraction ≡ f → marked m im t s im.integer (fraction_bytes f) ≡ point_bytes (alpha_point f t.whole)
-      go zero e = marked-end s im.integer
+      go zero e = marked_end s im.integer
       go (suc f) e =
           let i = im.integer in
           let ds = elements (digits_under im t) i (suc f) in
           let same : ds ≡ digits_of (suc f) t.whole =
           ap (λ (m : ℕ). elements (digits_under im t) i m) (sym e) ∙ elements_behind im t ∙ ap (λ (m : ℕ). digits_of m t.whole) e in
-          point-stays s i (times (suc f) hash_byte)
+          point_stays s i (times (suc f) hash_byte)
           ∙ ap (λ (l : List ℕ). point_byte ∷ marked m im t true i l) (sym (append-nil (times (suc f) hash_byte)))
-          ∙ ap (λ (l : List ℕ). point_byte ∷ l) (fill-shown (times_body (suc f)) i [])
-          ∙ ap (λ (l : List ℕ). point_byte ∷ (digit_bytes ds ++ l)) (marked-end true (i + suc f))
+          ∙ ap (λ (l : List ℕ). point_byte ∷ l) (fill_shown (times_body (suc f)) i [])
+          ∙ ap (λ (l : List ℕ). point_byte ∷ (digit_bytes ds ++ l)) (marked_end true (i + suc f))
           ∙ ap (λ (l : List ℕ). point_byte ∷ l) (append-nil (digit_bytes ds))
           ∙ ap (λ (l : List ℕ). point_byte ∷ digit_bytes l) same

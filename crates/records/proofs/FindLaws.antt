@@ -21,7 +21,7 @@ use Rattle.decimal.specs.Image.{plus_byte, minus_byte, hash_byte, point_byte, co
 use Rattle.decimal.proofs.DigitLaws.{le_or_lt}
 use Rattle.decimal.proofs.ImageLaws.{first_sign}
 use Rattle.codec.specs.Lists.{filled}
-use Rattle.codec.proofs.ListLaws.{filled-length, filled_at, filled-set}
+use Rattle.codec.proofs.ListLaws.{filled_length, filled_at, filled_set}
 use Rattle.records.specs.declared.finding.Field.{Field}
 use Rattle.records.specs.declared.finding.Fields.{Fields}
 use Rattle.records.specs.declared.scanning.Scanned.{Scanned}
@@ -185,8 +185,8 @@ take_next d x (y ∷ xs) rest (suc n) e =
 
 module _ {line : List ℕ} {fields : List Field} {count place : ℕ} (r : Finding line fields count place) where
   -- a literal byte is passed over
-  pub finding-literal : place ≤ length line → field_length (drop place line) ≡ 0 → Finding line fields count (place + 1)
-  finding-literal h e =
+  pub finding_literal : place ≤ length line → field_length (drop place line) ≡ 0 → Finding line fields count (place + 1)
+  finding_literal h e =
       record {
         few = omega (arith, r.few);
         within = r.within;
@@ -202,14 +202,14 @@ module _ {line : List ℕ} {fields : List Field} {count place : ℕ} (r : Findin
       }
 
   -- a field is refused for its # signs
-  pub finding-many : (field_length (drop place line) ≡ 0 → ⊥) → precision < hashes (scanned_image (take (field_length (drop place line)) (drop place line)))
+  pub finding_many : (field_length (drop place line) ≡ 0 → ⊥) → precision < hashes (scanned_image (take (field_length (drop place line)) (drop place line)))
       → check_fields 0 0 line ≡ refused 2 count
-  finding-many e h = sym r.checks ∙ check_many count (drop place line) e h
+  finding_many e h = sym r.checks ∙ check_many count (drop place line) e h
 
   -- all is found
-  finding-ends : length line ≤ place
+  finding_ends : length line ≤ place
       → (check_fields 0 0 line ≡ done tt) × (fields ≡ filled max_fields no_field (line_fields line)) × (count ≡ length (line_fields line))
-  finding-ends h =
+  finding_ends h =
       let none : drop count (line_fields line) ≡ [] = r.rest ∙ fields_end line place h in
       let size : length (line_fields line) - count ≡ 0 = sym (length-drop count (line_fields line)) ∙ ap length none in
       let all : take count (line_fields line) ≡ line_fields line = take_all count (line_fields line) (omega arith) in
@@ -248,7 +248,7 @@ module _ {line : List ℕ} {fields : List Field} {count place : ℕ} (r : Findin
         finding-field
         (ap (λ (x : List Field). set x count (field_of place (drop place line))) r.held
         ∙ ap (λ (k : ℕ). set (filled max_fields no_field first) k (field_of place (drop place line))) (sym size)
-        ∙ filled-set no_field max_fields first (field_of place (drop place line)) (omega arith)
+        ∙ filled_set no_field max_fields first (field_of place (drop place line)) (omega arith)
         ∙ ap (filled max_fields no_field) (sym finding-next.0))
 
     -- the array is full
@@ -284,14 +284,14 @@ found_refused h = record { answered = sym h; listed = λ d. never h d }
 pub found_listed : {line : List ℕ} {fields : List Field} {count place : ℕ} → Finding line fields count place → length line ≤ place
     → FieldsFound line (record { answer = answers.Fine; fields = fields; count = count })
 found_listed r h =
-    let all = finding-ends r h in
+    let all = finding_ends r h in
     record { answered = sym all.0; listed = λ d. record { held = all.1; counted = all.2 } }
 
 -- literal bytes are passed over
 pub finding_skips : {line : List ℕ} {fields : List Field} {count from to : ℕ} → Finding line fields count from → from ≤ length line → Skipped line from to
     → Finding line fields count to
 finding_skips {line} {fields} {count} {from} {to} r h s =
-    skipped_over (Finding line fields count) (λ k l e f. finding-literal f (omega arith) e) (to - from) (omega (arith, s.ahead)) s r
+    skipped_over (Finding line fields count) (λ k l e f. finding_literal f (omega arith) e) (to - from) (omega (arith, s.ahead)) s r
 
 -- The sign of a field is that of its first byte.
 field_sign : (line : List ℕ) (place : ℕ) → 0 < field_length (drop place line)
@@ -373,39 +373,39 @@ at_first line = record { inside = omega arith; rest = refl; reached = at_start }
 
 module _ {line : List ℕ} {next place : ℕ} (r : AtField line next place) where
   -- the place behind the literal bytes
-  behind-literals : ℕ
-  behind-literals = place + length (literals (drop place line))
+  behind_literals : ℕ
+  behind_literals = place + length (literals (drop place line))
 
   -- it is inside the line
-  literals-within : place + length (literals (drop place line)) ≤ length line
-  literals-within = omega (arith, literals_inside (drop place line), length-drop place line, r.inside)
+  literals_within : place + length (literals (drop place line)) ≤ length line
+  literals_within = omega (arith, literals_inside (drop place line), length-drop place line, r.inside)
 
   -- the fields left are those from there on
-  rest-there : drop next (line_fields line) ≡ fields_at line (place + length (literals (drop place line)))
-  rest-there = r.rest ∙ sym (fields_over line (length (literals (drop place line))) place refl)
+  rest_there : drop next (line_fields line) ≡ fields_at line (place + length (literals (drop place line)))
+  rest_there = r.rest ∙ sym (fields_over line (length (literals (drop place line))) place refl)
 
   -- where the line goes on there, a field stands there
-  some-there : place + length (literals (drop place line)) < length line → field_length (drop (place + length (literals (drop place line))) line) ≡ 0 → ⊥
-  some-there h z =
+  some_there : place + length (literals (drop place line)) < length line → field_length (drop (place + length (literals (drop place line))) line) ≡ 0 → ⊥
+  some_there h z =
       literals_stop (drop place line) (omega (arith, length-drop place line))
       (ap field_length (drop-drop (length (literals (drop place line))) place line) ∙ z)
 
   -- it is the next one
-  next-there : place + length (literals (drop place line)) < length line
+  next_there : place + length (literals (drop place line)) < length line
       → drop next (line_fields line)
       ≡ field_of (place + length (literals (drop place line))) (drop (place + length (literals (drop place line))) line)
       ∷ fields_at line
       (place + length (literals (drop place line)) + field_length (drop (place + length (literals (drop place line))) line))
-  next-there h = rest-there ∙ fields_field line (place + length (literals (drop place line))) (some-there h)
+  next_there h = rest_there ∙ fields_field line (place + length (literals (drop place line))) (some_there h)
 
   -- with no field left, all bytes are literal
-  pub no-next : length (line_fields line) ≤ next → length line ≡ place + length (literals (drop place line))
-  no-next h =
+  pub no_next : length (line_fields line) ≤ next → length line ≡ place + length (literals (drop place line))
+  no_next h =
       ⊎_elim
-      (λ l. omega (arith, literals-within))
+      (λ l. omega (arith, literals_within))
       (λ l.
       let none = ap length (drop_of_length-le (line_fields line) h) in
-      let some = ap length (next-there l) in
+      let some = ap length (next_there l) in
       absurd (omega arith))
       (le_or_lt (length line) (place + length (literals (drop place line))))
 
@@ -418,11 +418,11 @@ module _ {line : List ℕ} {next place : ℕ} (r : AtField line next place) wher
       let more : start < length line =
       ⊎_elim
       (λ l.
-      let none = ap length (rest-there ∙ fields_end line start l) in
+      let none = ap length (rest_there ∙ fields_end line start l) in
       absurd (omega (arith, length-drop next (line_fields line))))
       (λ l. l)
       (le_or_lt (length line) start) in
-      let list = sym (drop-cons (line_fields line) next no_field h) ∙ next-there more in
+      let list = sym (drop-cons (line_fields line) next no_field h) ∙ next_there more in
       let same : field_of start (drop start line) ≡ get_or (line_fields line) next no_field = ap (λ (l : List Field). get_or l 0 no_field) (sym list) in
       subst (NextField line next place) same
       (record {
@@ -434,7 +434,7 @@ module _ {line : List ℕ} {next place : ℕ} (r : AtField line next place) wher
             record {
               inside = field_inside line start (omega arith);
               rest = ap (λ (k : ℕ). drop k (line_fields line)) (add-one next) ∙ ap (drop 1) list;
-              reached = after_field (reached_next r.reached) (some-there more) refl;
+              reached = after_field (reached_next r.reached) (some_there more) refl;
             };
       })
 
@@ -446,7 +446,7 @@ counted_some line h =
 
 -- and none where it is 0
 pub counted_none : (line : List ℕ) → length (line_fields line) ≡ 0 → length line ≤ length (literals line)
-counted_none line h = omega (arith, no-next (at_first line) (omega arith))
+counted_none line h = omega (arith, no_next (at_first line) (omega arith))
 
 -- the code's next field
 pub listed_next : {line : List ℕ} {found : Fields} {next place : ℕ} (d : Field) → Listed line found → AtField line next place → next < found.count

@@ -22,15 +22,15 @@ use Rattle.codec.specs.Unpacking.{unpack_body, unpack_under, unpacked_of}
 use Rattle.codec.specs.Alpha.{alpha_texts, line_length}
 use Rattle.decimal.proofs.AnswerLaws.{then_done}
 use Rattle.codec.proofs.ContentsLaws.{told_read, told_refused, Sound, contents_sound}
-use Rattle.codec.proofs.ListLaws.{filled-front}
+use Rattle.codec.proofs.ListLaws.{filled_front}
 use Rattle.codec.proofs.UnderLaws.{checked_checks, told_images, unpack_under_checked}
 use Rattle.codec.proofs.UnpackLaws.{unpack_values}
 use Rattle.codec.proofs.LineLaws.{texts_count, texts_length, unpacked_count, unpacked_texts}
 use Rattle.codec.proofs.FrontLaws.{contents_size}
 use Rattle.records.specs.Files.{read_file, record_count, bodies, bodies_in}
 use Rattle.records.specs.Listing.{record_line, record_lines, file_lines, checked_file, lines_of, Listed, HasTexts}
-use Rattle.records.proofs.WritingLaws.{written_empty, kept-length, next-bytes}
-use Rattle.records.proofs.FileLaws.{FileRead, file-told}
+use Rattle.records.proofs.WritingLaws.{written_empty, kept_length, next_bytes}
+use Rattle.records.proofs.FileLaws.{FileRead, file_told}
 use Rattle.records.proofs.RecordLaws.{line_length_lem}
 
 -- What the code has of a contents, and of a body that it reads under it.
@@ -51,7 +51,7 @@ table_held table s h =
     record {
       sound = s;
       images = told_images table s.high h;
-      front = ap (λ (x : Contents). take x.images.count x.images.values) h ∙ filled-front no_image max_columns ims s.high;
+      front = ap (λ (x : Contents). take x.images.count x.images.values) h ∙ filled_front no_image max_columns ims s.high;
       count = ap (λ (x : Contents). x.images.count) h;
       size = ap (λ (x : Contents). x.size) h;
       body = ap (λ (x : Contents). x.body) h;
@@ -84,9 +84,9 @@ part_unpacked {table} {r} t file place h =
 
 module _ (ims : List Image) (b : List ℕ) (bs : List (List ℕ)) where
   -- a body that is refused
-  lines-refused : {x y : ℕ} → unpack_body ims b ≡ refused x y → record_lines ims (b ∷ bs) ≡ refused x y
+  lines_refused : {x y : ℕ} → unpack_body ims b ≡ refused x y → record_lines ims (b ∷ bs) ≡ refused x y
   unfolding record_lines ◌then◌
-  lines-refused h = rw h
+  lines_refused h = rw h
 
   -- a body that is read
   lines_next :
@@ -205,7 +205,7 @@ file_listed file {table} h =
     let same : one.value ≡ table = cc in
     let reads : read_file file ≡ done table = one.first ∙ ap {B = Answer Table} done same in
     let shows : file_lines table file ≡ done two.value = ap (λ (t : Table). file_lines t file) (sym same) ∙ two.first in
-    let told = file-told file reads in
+    let told = file_told file reads in
     record {
       reads = reads;
       lines = shows ∙ ap {B = Answer (List ℕ)} done (sym (lines_of_lem file reads shows));
@@ -234,7 +234,7 @@ pub record FileHeld (file : List ℕ) (r : Contents) : Type 0 where
 pub file_held : (file : List ℕ) {r : Contents} → r ≡ contents_of (read_file file) → r.answer ≡ checks.Fine → FileHeld file r
 file_held file {r} h e =
     let t = told_read (read_file file) r h e in
-    let f = file-told file t.reads in
+    let f = file_told file t.reads in
     record {
       table = t.table;
       reads = t.reads;
@@ -282,27 +282,27 @@ module _ (file : List ℕ) (size place : ℕ) where
     pub inside : place + size ≤ length file
     pub reaches : place + size + others * size ≡ length file
 
-  pub bodies-ahead : (left : ℕ) → place + left * size ≡ length file → place < length file → Ahead left
-  bodies-ahead zero h l = absurd (omega arith)
-  bodies-ahead (suc n) h l = record { others = n; one = refl; inside = omega arith; reaches = omega arith }
+  pub bodies_ahead : (left : ℕ) → place + left * size ≡ length file → place < length file → Ahead left
+  bodies_ahead zero h l = absurd (omega arith)
+  bodies_ahead (suc n) h l = record { others = n; one = refl; inside = omega arith; reaches = omega arith }
 
   -- the place is at the file's end: none is left
-  pub bodies-over : (left : ℕ) → 0 < size → place + left * size ≡ length file → length file ≤ place → left ≡ 0
-  bodies-over zero some h l = refl
-  bodies-over (suc n) some h l = absurd (omega arith)
+  pub bodies_over : (left : ℕ) → 0 < size → place + left * size ≡ length file → length file ≤ place → left ≡ 0
+  bodies_over zero some h l = refl
+  bodies_over (suc n) some h l = absurd (omega arith)
 
   -- the body at the place
   abbrev pub body_at : List ℕ
   body_at = take size (drop place file)
 
   -- and so many behind it
-  abbrev pub bodiesBehind : ℕ → List (List ℕ)
-  bodiesBehind n = bodies n size (drop (place + size) file)
+  abbrev pub bodies_behind : ℕ → List (List ℕ)
+  bodies_behind n = bodies n size (drop (place + size) file)
 
   -- are those that are left
-  pub bodies-next : (left : ℕ) (a : Ahead left) → bodies left size (drop place file) ≡ body_at ∷ bodiesBehind a.others
+  pub bodies_next : (left : ℕ) (a : Ahead left) → bodies left size (drop place file) ≡ body_at ∷ bodies_behind a.others
   unfolding bodies
-  bodies-next left a =
+  bodies_next left a =
       ap (λ (k : ℕ). bodies k size (drop place file)) a.one
       ∙ ap (λ (l : List ℕ). body_at ∷ bodies a.others size l) (drop-drop size place file)
 
@@ -338,7 +338,7 @@ pub checking_starts :
 unfolding checked_file bodies_in ◌then◌
 checking_starts file {table} h e =
     subst (λ (k : ℕ). Checking file table k) (sym e)
-    (record { left = record_count table file; reaches = file_reaches (file-told file h); rest = rw h })
+    (record { left = record_count table file; reaches = file_reaches (file_told file h); rest = rw h })
 
 module _ {file : List ℕ} {table : Table} {place : ℕ} (c : Checking file table place) where
   -- the bytes of a body
@@ -346,16 +346,16 @@ module _ {file : List ℕ} {table : Table} {place : ℕ} (c : Checking file tabl
   size = body_size table.images
 
   -- at the end
-  pub checking-ends : 0 < size → length file ≤ place → checked_file file ≡ done table
+  pub checking_ends : 0 < size → length file ≤ place → checked_file file ≡ done table
   unfolding record_lines bodies ◌then◌
-  checking-ends some l =
-      let over = bodies-over file size place c.left some c.reaches l in
+  checking_ends some l =
+      let over = bodies_over file size place c.left some c.reaches l in
       c.rest ∙ ap (λ (k : ℕ). record_lines table.images (bodies_left file table place k) then λ lines. done table) over
 
   module _ (l : place < length file) where
     -- one body is left at least
     ahead : Ahead file size place c.left
-    ahead = bodies-ahead file size place c.left c.reaches l
+    ahead = bodies_ahead file size place c.left c.reaches l
 
     -- it ends within the file
     pub checking-inside : place + size ≤ length file
@@ -366,19 +366,19 @@ module _ {file : List ℕ} {table : Table} {place : ℕ} (c : Checking file tabl
     body = body_at file size place
 
     abbrev behind : List (List ℕ)
-    behind = bodiesBehind file size place ahead.others
+    behind = bodies_behind file size place ahead.others
 
     -- what they say
     checking-rest : checked_file file ≡ (record_lines table.images (body ∷ behind) then λ lines. done table)
     checking-rest =
         c.rest
-        ∙ ap (λ (bs : List (List ℕ)). record_lines table.images bs then λ lines. done table) (bodies-next file size place c.left ahead)
+        ∙ ap (λ (bs : List (List ℕ)). record_lines table.images bs then λ lines. done table) (bodies_next file size place c.left ahead)
 
     -- the body is refused
     pub checking-stops : {x y : ℕ} → unpack_body table.images body ≡ refused x y → checked_file file ≡ refused x y
     unfolding ◌then◌
     checking-stops h =
-        checking-rest ∙ ap (λ (a : Answer (List ℕ)). a then λ lines. done table) (lines-refused table.images body behind h)
+        checking-rest ∙ ap (λ (a : Answer (List ℕ)). a then λ lines. done table) (lines_refused table.images body behind h)
 
     -- it is read
     pub checking-turns :
@@ -442,7 +442,7 @@ module _
       → (out ≡ start + length (lines_of file)) × (now ≡ written buffer start (lines_of file))
   unfolding record_lines bodies
   lining_ends some l =
-      let over = bodies-over file (body_size table.images) place w.left some w.reaches l in
+      let over = bodies_over file (body_size table.images) place w.left some w.reaches l in
       let last : ◌≡◌ {A = Answer (List ℕ)} (done []) (done w.after) =
       sym (ap (λ (k : ℕ). record_lines table.images (bodies_left file table place k)) over) ∙ w.comes in
       let empty : [] ≡ w.after = cc in
@@ -454,7 +454,7 @@ module _
   module _ (l : place < length file) where
     -- one body is left at least
     pub lining-ahead : Ahead file (body_size table.images) place w.left
-    lining-ahead = bodies-ahead file (body_size table.images) place w.left w.reaches l
+    lining-ahead = bodies_ahead file (body_size table.images) place w.left w.reaches l
 
     -- it ends within the file
     pub lining-inside : place + body_size table.images ≤ length file
@@ -463,11 +463,11 @@ module _
     -- it is read, and its texts exist
     pub lining_step :
         LinesStep table.images (body_at file (body_size table.images) place)
-        (bodiesBehind file (body_size table.images) place lining-ahead.others) w.after
+        (bodies_behind file (body_size table.images) place lining-ahead.others) w.after
     lining_step =
         let size : ℕ = body_size table.images in
-        lines_view table.images (body_at file size place) (bodiesBehind file size place lining-ahead.others)
-        (ap (record_lines table.images) (sym (bodies-next file size place w.left lining-ahead)) ∙ w.comes)
+        lines_view table.images (body_at file size place) (bodies_behind file size place lining-ahead.others)
+        (ap (record_lines table.images) (sym (bodies_next file size place w.left lining-ahead)) ∙ w.comes)
 
     -- the line of it
     pub next-line : List ℕ
@@ -494,7 +494,7 @@ module _
 
       pub lining-room : out + length next-line ≤ length now
       lining-room =
-          let kept = kept-length buffer start w.before w.holds w.ends (omega (arith, w.ends, lining-fits)) in
+          let kept = kept_length buffer start w.before w.holds w.ends (omega (arith, w.ends, lining-fits)) in
           omega (arith, w.ends, lining-fits)
 
       -- it is written
@@ -518,7 +518,7 @@ module _
             holds =
                 h
                 ∙ ap (λ (x : List ℕ). written now out x) same
-                ∙ next-bytes buffer start w.before w.holds w.ends next-line (omega (arith, w.ends, lining-fits));
+                ∙ next_bytes buffer start w.before w.holds w.ends next-line (omega (arith, w.ends, lining-fits));
           })
 
 -- The line that the code writes is that of the body at the place.
@@ -530,37 +530,37 @@ module _
     (e : u ≡ unpacked_of (unpack_under (image_list r.images) (take r.body (drop place file)))) where
   -- the body's numbers and texts
   abbrev step : LinesStep h.table.images (body_at file (body_size h.table.images) place)
-      (bodiesBehind file (body_size h.table.images) place (lining-ahead w l).others) w.after
+      (bodies_behind file (body_size h.table.images) place (lining-ahead w l).others) w.after
   step = lining_step w l
 
   -- one number for each column
-  numbers-count : length step.numbers ≡ length h.table.images
-  numbers-count = unpacked_count h.table.images (body_at file (body_size h.table.images) place) step.unpacks
+  numbers_count : length step.numbers ≡ length h.table.images
+  numbers_count = unpacked_count h.table.images (body_at file (body_size h.table.images) place) step.unpacks
 
   -- the numbers stand at the front of the array
-  values-front : take r.images.count u.numbers.values ≡ step.numbers
-  values-front =
+  values_front : take r.images.count u.numbers.values ≡ step.numbers
+  values_front =
       let t = h.held in
       let body : List ℕ = body_at file (body_size h.table.images) place in
-      ap (λ (k : ℕ). take k u.numbers.values) (t.count ∙ sym numbers-count)
+      ap (λ (k : ℕ). take k u.numbers.values) (t.count ∙ sym numbers_count)
       ∙ unpack_values (unpack_body h.table.images body) (part_unpacked t file place e) step.unpacks
-      (omega (arith, numbers-count, t.sound.high))
+      (omega (arith, numbers_count, t.sound.high))
 
   -- so the texts are those of the arrays
-  front-texts : alpha_texts (take r.images.count r.images.values) (take r.images.count u.numbers.values) ≡ done step.texts
-  front-texts = ap₂ (λ (x : List Image) (y : List Number). alpha_texts x y) h.held.front values-front ∙ step.shows
+  front_texts : alpha_texts (take r.images.count r.images.values) (take r.images.count u.numbers.values) ≡ done step.texts
+  front_texts = ap₂ (λ (x : List Image) (y : List Number). alpha_texts x y) h.held.front values_front ∙ step.shows
 
-  pub front-has : HasTexts (take r.images.count r.images.values) (take r.images.count u.numbers.values)
-  front-has =
+  pub front_has : HasTexts (take r.images.count r.images.values) (take r.images.count u.numbers.values)
+  front_has =
       let t = h.held in
       record {
         checked = subst (λ (x : List Image). AllChecked x) (sym t.front) t.sound.all;
         texts = step.texts;
-        exist = front-texts;
-        counted = texts_count t.sound.all step.numbers numbers-count step.shows ∙ sym (ap length t.front);
+        exist = front_texts;
+        counted = texts_count t.sound.all step.numbers numbers_count step.shows ∙ sym (ap length t.front);
       }
 
   -- and so is the line
-  pub front-line : record_line (given (alpha_texts (take r.images.count r.images.values) (take r.images.count u.numbers.values))) ≡ next-line w l
+  pub front_line : record_line (given (alpha_texts (take r.images.count r.images.values) (take r.images.count u.numbers.values))) ≡ next-line w l
   unfolding given next-line
-  front-line = ap (λ (a : Answer (List (List ℕ))). record_line (given a)) front-texts
+  front_line = ap (λ (a : Answer (List (List ℕ))). record_line (given a)) front_texts

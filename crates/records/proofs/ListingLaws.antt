@@ -29,8 +29,8 @@ use Rattle.records.specs.Listing.{
   checked_file,
   lines_of,
 }
-use Rattle.records.proofs.WritingLaws.{next-bytes}
-use Rattle.records.proofs.ReportLaws.{count-line-length, within_none, printed-long, printed-short, printed-refused, printed-within}
+use Rattle.records.proofs.WritingLaws.{next_bytes}
+use Rattle.records.proofs.ReportLaws.{count_line_length, within_none, printed-long, printed-short, printed_refused, printed_within}
 use Rattle.records.proofs.LinesLaws.{line_some, FileListed, listed_length, ListedHeld}
 
 -- The listing of a file whose bodies can all be read.
@@ -40,24 +40,24 @@ pub parts_length : (first lines last : List ℕ) → length (first ++ (lines ++ 
 parts_length first lines last = omega (arith, length-append first (lines ++ last), length-append lines last)
 
 module _ {file : List ℕ} {table : Table} (l : FileListed file table) where
-  pub listing-done : listing file ≡ done (listing_of table file (lines_of file))
+  pub listing_done : listing file ≡ done (listing_of table file (lines_of file))
   unfolding listing ◌then◌
-  listing-done = rw (l.reads, l.lines)
+  listing_done = rw (l.reads, l.lines)
 
   -- how long it is
-  pub listing-length :
+  pub listing_length :
       length (listing_of table file (lines_of file))
       ≡ 18 + length (decimal_text (length table.images)) + length (decimal_text (record_count table file))
       + record_count table file * (table.size - 1)
   unfolding listing_of
-  listing-length =
+  listing_length =
       let columns : ℕ = length table.images in
       let records : ℕ = record_count table file in
       omega (
         arith,
         parts_length (count_line columns_word columns) (lines_of file) (count_line records_word records),
-        count-line-length columns_word columns,
-        count-line-length records_word records,
+        count_line_length columns_word columns,
+        count_line_length records_word records,
         listed_length l,
       )
 
@@ -116,9 +116,9 @@ parts_written buffer first lines last {one} {two} {three} {start} {end} room e f
     let long = parts_length first lines last in
     let front = length-append first lines in
     let behind : end ≡ 0 + length (first ++ lines) = omega arith in
-    let both : two ≡ written buffer 0 (first ++ lines) = k ∙ next-bytes buffer 0 first h e lines (omega arith) in
+    let both : two ≡ written buffer 0 (first ++ lines) = k ∙ next_bytes buffer 0 first h e lines (omega arith) in
     m
-    ∙ next-bytes buffer 0 (first ++ lines) both behind last (omega arith)
+    ∙ next_bytes buffer 0 (first ++ lines) both behind last (omega arith)
     ∙ ap (λ (x : List ℕ). written buffer 0 x) (append_assoc first lines last)
 
 -- the count of records, as the code has it
@@ -134,23 +134,23 @@ last_line file r = count_line records_word (records_of file r)
 
 module _ {file : List ℕ} {r : Contents} (h : ListedHeld file r) where
   -- the count of records is the file's
-  records-same : records_of file r ≡ record_count h.table file
+  records_same : records_of file r ≡ record_count h.table file
   unfolding record_count
-  records-same = λ i. (length file - h.held.size i) / h.held.body i
+  records_same = λ i. (length file - h.held.size i) / h.held.body i
 
   -- so the lines are the listing's
-  listing-same : listing_of h.table file (lines_of file) ≡ first_line r ++ (lines_of file ++ last_line file r)
+  listing_same : listing_of h.table file (lines_of file) ≡ first_line r ++ (lines_of file ++ last_line file r)
   unfolding listing_of
-  listing-same =
-      ap₂ (λ (c n : ℕ). count_line columns_word c ++ (lines_of file ++ count_line records_word n)) (sym h.held.count) (sym records-same)
+  listing_same =
+      ap₂ (λ (c n : ℕ). count_line columns_word c ++ (lines_of file ++ count_line records_word n)) (sym h.held.count) (sym records_same)
 
-  pub listed-parts : (room : ℕ) → listed file room ≡ within room (first_line r ++ (lines_of file ++ last_line file r))
+  pub listed_parts : (room : ℕ) → listed file room ≡ within room (first_line r ++ (lines_of file ++ last_line file r))
   unfolding listed ◌then◌
-  listed-parts room = rw (listing-done h.lists) (ap (within room) listing-same)
+  listed_parts room = rw (listing_done h.lists) (ap (within room) listing_same)
 
   -- what the code's divisions and subtractions ask
-  pub listed-sizes : (0 < r.body) × (1 < r.size) × (r.size ≤ length file)
-  listed-sizes =
+  pub listed_sizes : (0 < r.body) × (1 < r.size) × (r.size ≤ length file)
+  listed_sizes =
       let l = h.lists in
       let t = h.held in
       let some = line_some h.table.images t.sound in
@@ -165,21 +165,21 @@ module _ {file : List ℕ} {r : Contents} (h : ListedHeld file r) where
     -- is the listing's length
     measured : 18 + one + two + records_of file r * (r.size - 1) ≡ length (first_line r ++ (lines_of file ++ last_line file r))
     measured =
-        (λ i. 18 + counted i + numbered i + records-same i * (h.held.size i - 1))
-        ∙ sym (listing-length h.lists)
-        ∙ ap length listing-same
+        (λ i. 18 + counted i + numbered i + records_same i * (h.held.size i - 1))
+        ∙ sym (listing_length h.lists)
+        ∙ ap length listing_same
       where
         counted : one ≡ length (decimal_text (length h.table.images))
         counted = columns ∙ ap (λ (n : ℕ). length (decimal_text n)) h.held.count
 
         numbered : two ≡ length (decimal_text (record_count h.table file))
-        numbered = records ∙ ap (λ (n : ℕ). length (decimal_text n)) records-same
+        numbered = records ∙ ap (λ (n : ℕ). length (decimal_text n)) records_same
 
     -- the listing is longer than the room
     pub measured-long : longer ≡ true → listed file room ≡ refused 6 0
     measured-long e =
         let long = ltb-true room (18 + one + two + records_of file r * (r.size - 1)) (sym test ∙ e) in
-        listed-parts room ∙ within_none room (first_line r ++ (lines_of file ++ last_line file r)) (omega (arith, measured))
+        listed_parts room ∙ within_none room (first_line r ++ (lines_of file ++ last_line file r)) (omega (arith, measured))
 
     -- or it is not
     pub measured-short : longer ≡ false → length (first_line r) + length (lines_of file) + length (last_line file r) ≤ room
@@ -191,21 +191,21 @@ module _ {file : List ℕ} {r : Contents} (h : ListedHeld file r) where
 
 module _ (input : List ℕ) where
   -- of a file that is too long
-  pub report-long : max_file < length input → report_of input ≡ refusal_line 11 0
+  pub report_long : max_file < length input → report_of input ≡ refusal_line 11 0
   unfolding report_of
-  report-long h = printed-long (listing input) (length input) h
+  report_long h = printed-long (listing input) (length input) h
 
   -- of another
-  pub report-short : length input ≤ max_file → report_of input ≡ printed_of (listing input)
+  pub report_short : length input ≤ max_file → report_of input ≡ printed_of (listing input)
   unfolding report_of
-  report-short h = printed-short (listing input) (length input) h
+  report_short h = printed-short (listing input) (length input) h
 
   module _ (few : length input ≤ max_file) where
     -- a refusal
     pub report-refused : {x y : ℕ} → checked_file input ≡ refused x y → report_of input ≡ refusal_line x y
-    report-refused h = report-short few ∙ printed-refused (listing input) (listing_refused input h)
+    report-refused h = report_short few ∙ printed_refused (listing input) (listing_refused input h)
 
     -- or a listing, as the call gives it
     pub report-same : {table : Table} → FileListed input table → (room : ℕ) → listed input room ≡ within room (report_of input)
     unfolding listed
-    report-same l room = printed-within (listing input) room (listing-done l) ∙ ap (within room) (sym (report-short few))
+    report-same l room = printed_within (listing input) room (listing_done l) ∙ ap (within room) (sym (report_short few))

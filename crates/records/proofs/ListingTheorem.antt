@@ -17,9 +17,9 @@ use Rattle.records.specs.Files.{read_file, record_count}
 use Rattle.records.specs.Listing.{file_lines, listing_of, listing, max_file, max_report, report_of, checked_file, lines_of}
 use Rattle.codec.proofs.LineLaws.{line_bound}
 use Rattle.records.proofs.WritingLaws.{decimal_few}
-use Rattle.records.proofs.ReportLaws.{refusal-few, within-some, printed_few}
+use Rattle.records.proofs.ReportLaws.{refusal_few, within_some, printed_few}
 use Rattle.records.proofs.LinesLaws.{FileListed, file_listed}
-use Rattle.records.proofs.ListingLaws.{listing-done, listing-length, report-long, report-short}
+use Rattle.records.proofs.ListingLaws.{listing_done, listing_length, report_long, report_short}
 
 -- the listing of a file whose bodies can all be read
 listed_bound :
@@ -31,7 +31,7 @@ listed_bound {file} {table} l =
     let same : table.size - 1 ≡ line = omega (arith, l.size) in
     let lines : n * (table.size - 1) ≡ n * line = ap (λ (k : ℕ). n * k) same in
     let most : n * line ≤ n * (4 * body) = mul-le-mul_left n (line_bound l.sound.all) in
-    omega (arith, listing-length l, decimal_few (length table.images), decimal_few n, l.reaches)
+    omega (arith, listing_length l, decimal_few (length table.images), decimal_few n, l.reaches)
 
 -- a listing tells that the bodies can all be read
 checked_done : (file : List ℕ) {bytes : List ℕ} → listing file ≡ done bytes → (table : Table) × (checked_file file ≡ done table)
@@ -54,7 +54,7 @@ listing_bound file {bytes} h =
     let c = checked_done file h in
     let l = file_listed file c.1 in
     let text : List ℕ = listing_of c.0 file (lines_of file) in
-    let both : ◌≡◌ {A = Answer (List ℕ)} (done text) (done bytes) = sym (listing-done l) ∙ h in
+    let both : ◌≡◌ {A = Answer (List ℕ)} (done text) (done bytes) = sym (listing_done l) ∙ h in
     let same : text ≡ bytes = cc in
     omega (arith, ap length same, listed_bound l)
 
@@ -64,10 +64,10 @@ report_bound input =
     ⊎_elim
     (λ few.
     let printed = printed_few max_report (omega arith) (listing input) (λ bytes h. omega (arith, listing_bound input h, few)) in
-    omega (arith, ap length (report-short input few), printed))
-    (λ many. omega (arith, ap length (report-long input many), refusal-few 11 0))
+    omega (arith, ap length (report_short input few), printed))
+    (λ many. omega (arith, ap length (report_long input many), refusal_few 11 0))
     (le_or_lt (length input) max_file)
 
 -- Published: so a buffer of that length has room for it.
 pub report_fits : (input : List ℕ) (room : ℕ) → max_report ≤ room → within room (report_of input) ≡ done (report_of input)
-report_fits input room h = within-some room (report_of input) (omega (arith, report_bound input))
+report_fits input room h = within_some room (report_of input) (omega (arith, report_bound input))

@@ -102,19 +102,19 @@ any_third false false = refl
 
 module _ (m : Marks) (r : List ℕ) where
   -- a blank is dropped
-  pub drops-blank : without_marks m (blank_byte ∷ r) ≡ without_marks m r
+  pub drops_blank : without_marks m (blank_byte ∷ r) ≡ without_marks m r
   unfolding without_marks is_dropped
-  drops-blank = refl
+  drops_blank = refl
 
   -- a filling byte is
-  pub drops-filling : without_marks m (m.filling ∷ r) ≡ without_marks m r
+  pub drops_filling : without_marks m (m.filling ∷ r) ≡ without_marks m r
   unfolding without_marks is_dropped
-  drops-filling = rw (eq-eqb m.filling m.filling refl, any_second (eqb m.filling blank_byte) (eqb m.filling m.thousands))
+  drops_filling = rw (eq-eqb m.filling m.filling refl, any_second (eqb m.filling blank_byte) (eqb m.filling m.thousands))
 
   -- a thousands mark is
-  pub drops-thousands : without_marks m (m.thousands ∷ r) ≡ without_marks m r
+  pub drops_thousands : without_marks m (m.thousands ∷ r) ≡ without_marks m r
   unfolding without_marks is_dropped
-  drops-thousands = rw (eq-eqb m.thousands m.thousands refl, any_third (eqb m.thousands blank_byte) (eqb m.thousands m.filling))
+  drops_thousands = rw (eq-eqb m.thousands m.thousands refl, any_third (eqb m.thousands blank_byte) (eqb m.thousands m.filling))
 
 module _ {m : Marks} (valid : ValidMarks m) (r : List ℕ) where
   -- a byte that is no blank, no mark and no point is kept
@@ -125,8 +125,8 @@ module _ {m : Marks} (valid : ValidMarks m) (r : List ℕ) where
       rw (ne_eqb b blank_byte blank, ne_eqb b m.filling filling, ne_eqb b m.thousands thousands, ne_eqb b m.decimal decimal, ne_eqb b point_byte point)
 
   -- so is a digit
-  pub keeps-digit : (d : ℕ) → d < 10 → without_marks m ((zero_byte + d) ∷ r) ≡ (zero_byte + d) ∷ without_marks m r
-  keeps-digit d h =
+  pub keeps_digit : (d : ℕ) → d < 10 → without_marks m ((zero_byte + d) ∷ r) ≡ (zero_byte + d) ∷ without_marks m r
+  keeps_digit d h =
       keeps (zero_byte + d)
       (λ e. omega arith)
       (λ e. omega arith)
@@ -135,8 +135,8 @@ module _ {m : Marks} (valid : ValidMarks m) (r : List ℕ) where
       (λ e. valid.decimal_byte.no_digit d h (sym e))
 
   -- a sign
-  pub keeps-plus : without_marks m (plus_byte ∷ r) ≡ plus_byte ∷ without_marks m r
-  keeps-plus =
+  pub keeps_plus : without_marks m (plus_byte ∷ r) ≡ plus_byte ∷ without_marks m r
+  keeps_plus =
       keeps plus_byte
       (λ e. omega arith)
       (λ e. omega arith)
@@ -144,8 +144,8 @@ module _ {m : Marks} (valid : ValidMarks m) (r : List ℕ) where
       (λ e. valid.thousands_byte.no_plus (sym e))
       (λ e. valid.decimal_byte.no_plus (sym e))
 
-  pub keeps-minus : without_marks m (minus_byte ∷ r) ≡ minus_byte ∷ without_marks m r
-  keeps-minus =
+  pub keeps_minus : without_marks m (minus_byte ∷ r) ≡ minus_byte ∷ without_marks m r
+  keeps_minus =
       keeps minus_byte
       (λ e. omega arith)
       (λ e. omega arith)
@@ -154,8 +154,8 @@ module _ {m : Marks} (valid : ValidMarks m) (r : List ℕ) where
       (λ e. valid.decimal_byte.no_minus (sym e))
 
   -- E
-  pub keeps-exponent : without_marks m (exponent_byte ∷ r) ≡ exponent_byte ∷ without_marks m r
-  keeps-exponent =
+  pub keeps_exponent : without_marks m (exponent_byte ∷ r) ≡ exponent_byte ∷ without_marks m r
+  keeps_exponent =
       keeps exponent_byte
       (λ e. omega arith)
       (λ e. omega arith)
@@ -164,9 +164,9 @@ module _ {m : Marks} (valid : ValidMarks m) (r : List ℕ) where
       (λ e. valid.decimal_byte.no_exponent_lem (sym e))
 
   -- the decimal mark is kept as the point
-  pub keeps-decimal : without_marks m (m.decimal ∷ r) ≡ point_byte ∷ without_marks m r
+  pub keeps_decimal : without_marks m (m.decimal ∷ r) ≡ point_byte ∷ without_marks m r
   unfolding without_marks is_dropped read_byte
-  keeps-decimal =
+  keeps_decimal =
       rw (
         ne_eqb m.decimal blank_byte valid.decimal_blank,
         ne_eqb m.decimal m.filling valid.decimal_filling,
@@ -178,49 +178,49 @@ module _ {m : Marks} (valid : ValidMarks m) (r : List ℕ) where
 
 module _ (m : Marks) where
   -- the text keeps its length
-  pub decimal-length : (bs : List ℕ) → length (with_decimal m bs) ≡ length bs
+  pub decimal_length : (bs : List ℕ) → length (with_decimal m bs) ≡ length bs
   unfolding with_decimal
-  decimal-length [] = refl
-  decimal-length (b ∷ bs) = ap suc (decimal-length bs)
+  decimal_length [] = refl
+  decimal_length (b ∷ bs) = ap suc (decimal_length bs)
 
   -- in two parts
-  pub decimal-append : (xs ys : List ℕ) → with_decimal m (xs ++ ys) ≡ with_decimal m xs ++ with_decimal m ys
+  pub decimal_append : (xs ys : List ℕ) → with_decimal m (xs ++ ys) ≡ with_decimal m xs ++ with_decimal m ys
   unfolding with_decimal
-  decimal-append [] ys = refl
-  decimal-append (b ∷ xs) ys = ap (λ (l : List ℕ). pick (eqb b point_byte) m.decimal b ∷ l) (decimal-append xs ys)
+  decimal_append [] ys = refl
+  decimal_append (b ∷ xs) ys = ap (λ (l : List ℕ). pick (eqb b point_byte) m.decimal b ∷ l) (decimal_append xs ys)
 
   -- digits have no point
-  pub decimal-digits : (ds : List ℕ) → with_decimal m (digit_bytes ds) ≡ digit_bytes ds
+  pub decimal_digits : (ds : List ℕ) → with_decimal m (digit_bytes ds) ≡ digit_bytes ds
   unfolding with_decimal digit_bytes
-  decimal-digits [] = refl
-  decimal-digits (d ∷ ds) = rw (ne_eqb (zero_byte + d) point_byte (λ e. omega arith), decimal-digits ds)
+  decimal_digits [] = refl
+  decimal_digits (d ∷ ds) = rw (ne_eqb (zero_byte + d) point_byte (λ e. omega arith), decimal_digits ds)
 
   -- a sign has none
-  pub decimal-sign : (s : Sign) (negative : Bool) → with_decimal m (sign_text s negative) ≡ sign_text s negative
+  pub decimal_sign : (s : Sign) (negative : Bool) → with_decimal m (sign_text s negative) ≡ sign_text s negative
   unfolding with_decimal sign_text
-  decimal-sign Unsigned negative = refl
-  decimal-sign Plus true = refl
-  decimal-sign Plus false = refl
-  decimal-sign Minus true = refl
-  decimal-sign Minus false = refl
+  decimal_sign Unsigned negative = refl
+  decimal_sign Plus true = refl
+  decimal_sign Plus false = refl
+  decimal_sign Minus true = refl
+  decimal_sign Minus false = refl
 
   -- an exponent has none
-  pub decimal-exponent : (kind : Bool) (t : Truncated) → with_decimal m (exponent_text kind t) ≡ exponent_text kind t
+  pub decimal_exponent : (kind : Bool) (t : Truncated) → with_decimal m (exponent_text kind t) ≡ exponent_text kind t
   unfolding with_decimal exponent_text
-  decimal-exponent false t = refl
-  decimal-exponent true t = go (ltb t.x exponent_limit)
+  decimal_exponent false t = refl
+  decimal_exponent true t = go (ltb t.x exponent_limit)
     where
       ds : List ℕ
       ds = digit_bytes (digits_of 2 (exponent_size t))
 
       go : (b : Bool) → with_decimal m (exponent_byte ∷ (pick b minus_byte plus_byte ∷ ds)) ≡ exponent_byte ∷ (pick b minus_byte plus_byte ∷ ds)
-      go true = ap (λ (l : List ℕ). exponent_byte ∷ (minus_byte ∷ l)) (decimal-digits (digits_of 2 (exponent_size t)))
-      go false = ap (λ (l : List ℕ). exponent_byte ∷ (plus_byte ∷ l)) (decimal-digits (digits_of 2 (exponent_size t)))
+      go true = ap (λ (l : List ℕ). exponent_byte ∷ (minus_byte ∷ l)) (decimal_digits (digits_of 2 (exponent_size t)))
+      go false = ap (λ (l : List ℕ). exponent_byte ∷ (plus_byte ∷ l)) (decimal_digits (digits_of 2 (exponent_size t)))
 
   -- the point becomes the decimal mark
-  pub decimal-point : (bs : List ℕ) → with_decimal m (point_byte ∷ bs) ≡ m.decimal ∷ with_decimal m bs
+  pub decimal_point : (bs : List ℕ) → with_decimal m (point_byte ∷ bs) ≡ m.decimal ∷ with_decimal m bs
   unfolding with_decimal
-  decimal-point bs = refl
+  decimal_point bs = refl
 
 -- The parts of an alpha text: what stands before the point, and what stands behind it.
 
@@ -281,34 +281,34 @@ text_pointed im t some = go im.fraction refl
 
 module _ (m : Marks) (im : Image) (t : Truncated) where
   -- what stands before the point stays
-  decimal-front : with_decimal m (front_text im t) ≡ front_text im t
-  decimal-front =
+  decimal_front : with_decimal m (front_text im t) ≡ front_text im t
+  decimal_front =
       let sign = sign_text im.sign t.negative in
       let ds = digits_of im.integer (t.whole / 10 ^ im.fraction) in
-      decimal-append m sign (digit_bytes ds) ∙ (λ i. decimal-sign m im.sign t.negative i ++ decimal-digits m ds i)
+      decimal_append m sign (digit_bytes ds) ∙ (λ i. decimal_sign m im.sign t.negative i ++ decimal_digits m ds i)
 
   -- what stands behind it stays
-  decimal-back : with_decimal m (back_text im t) ≡ back_text im t
-  decimal-back =
+  decimal_back : with_decimal m (back_text im t) ≡ back_text im t
+  decimal_back =
       let ds = digits_of im.fraction t.whole in
-      decimal-append m (digit_bytes ds) (exponent_text im.exponential t)
-      ∙ (λ i. decimal-digits m ds i ++ decimal-exponent m im.exponential t i)
+      decimal_append m (digit_bytes ds) (exponent_text im.exponential t)
+      ∙ (λ i. decimal_digits m ds i ++ decimal_exponent m im.exponential t i)
 
   -- a text with no point stays
-  decimal-plain : im.fraction ≡ 0 → with_decimal m (alpha_text im t) ≡ alpha_text im t
-  decimal-plain e =
+  decimal_plain : im.fraction ≡ 0 → with_decimal m (alpha_text im t) ≡ alpha_text im t
+  decimal_plain e =
       ap (with_decimal m) (text_plain im t e)
-      ∙ decimal-append m (front_text im t) (exponent_text im.exponential t)
-      ∙ (λ i. decimal-front i ++ decimal-exponent m im.exponential t i)
+      ∙ decimal_append m (front_text im t) (exponent_text im.exponential t)
+      ∙ (λ i. decimal_front i ++ decimal_exponent m im.exponential t i)
       ∙ sym (text_plain im t e)
 
   -- the point of a text is its decimal mark
-  decimal-pointed : (im.fraction ≡ 0 → ⊥) → with_decimal m (alpha_text im t) ≡ front_text im t ++ m.decimal ∷ back_text im t
-  decimal-pointed some =
+  decimal_pointed : (im.fraction ≡ 0 → ⊥) → with_decimal m (alpha_text im t) ≡ front_text im t ++ m.decimal ∷ back_text im t
+  decimal_pointed some =
       ap (with_decimal m) (text_pointed im t some)
-      ∙ decimal-append m (front_text im t) (point_byte ∷ back_text im t)
-      ∙ ap (λ (l : List ℕ). with_decimal m (front_text im t) ++ l) (decimal-point m (back_text im t))
-      ∙ (λ i. decimal-front i ++ m.decimal ∷ decimal-back i)
+      ∙ decimal_append m (front_text im t) (point_byte ∷ back_text im t)
+      ∙ ap (λ (l : List ℕ). with_decimal m (front_text im t) ++ l) (decimal_point m (back_text im t))
+      ∙ (λ i. decimal_front i ++ m.decimal ∷ decimal_back i)
 
 -- bytes parted anew
 parted_anew : (a f : List ℕ) (x : ℕ) (k d : List ℕ) → a ++ (f ++ x ∷ k) ++ d ≡ (a ++ f) ++ x ∷ (k ++ d)
@@ -338,10 +338,10 @@ point_marked_lem m im t b start h = go im.fraction refl
     go : (f : ℕ) → im.fraction ≡ f
         → pick (eqb im.fraction 0) (written b start (alpha_text im t)) (set (written b start (alpha_text im t)) (start + point_place im) m.decimal)
         ≡ written b start (with_decimal m (alpha_text im t))
-    go zero e = rw (eq-eqb im.fraction 0 e) (ap (written b start) (sym (decimal-plain m im t e)))
+    go zero e = rw (eq-eqb im.fraction 0 e) (ap (written b start) (sym (decimal_plain m im t e)))
     go (suc f) e =
         let some : im.fraction ≡ 0 → ⊥ = λ z. omega arith in
         rw (ne_eqb im.fraction 0 some)
         ((λ i. set (written b start (text_pointed im t some i)) (start + sym (front_length im t) i) m.decimal)
         ∙ set_written b (front_text im t) (back_text im t) start point_byte m.decimal h
-        ∙ ap (written b start) (sym (decimal-pointed m im t some)))
+        ∙ ap (written b start) (sym (decimal_pointed m im t some)))

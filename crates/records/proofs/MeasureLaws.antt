@@ -14,44 +14,44 @@ use Rattle.records.proofs.CheckLaws.{elements_refused, elements_next, elements_e
 use Rattle.records.specs.declared.finding.Field.{Field}
 use Rattle.records.specs.declared.finding.Fields.{Fields}
 use Rattle.records.specs.Finding.{no_field, Listed}
-use Rattle.records.proofs.FindLaws.{AtField, NextField, at_first, no-next, counted_none, listed_next}
+use Rattle.records.proofs.FindLaws.{AtField, NextField, at_first, no_next, counted_none, listed_next}
 use Rattle.decimal.specs.Image.{scanned_image}
 use Rattle.decimal.proofs.AnswerLaws.{never_done}
 use Rattle.records.proofs.BoundLaws.{ready_field}
-use Rattle.records.proofs.PlaceLaws.{Place, Spills, literals_at, place-ends, place-line, place-literals, place-small, place_starts, spills-end, spills-line, spills-literals, spills_once, spills_start, turn-place, turn-spills}
+use Rattle.records.proofs.PlaceLaws.{Place, Spills, literals_at, place_ends, place_line, place_literals, place_small, place_starts, spills_end, spills_line, spills_literals, spills_once, spills_start, turn_place, turn_spills}
 
 -- What is measured.
 
 module _ (room : ℕ) (texts line : List ℕ) (es : List Element) where
   -- an element is refused
-  pub measured-not : {number place : ℕ} → check_elements room 0 es ≡ refused number place → refused number place ≡ counts_of (measured room texts line es)
+  pub measured_not : {number place : ℕ} → check_elements room 0 es ≡ refused number place → refused number place ≡ counts_of (measured room texts line es)
   unfolding measured ◌then◌ counts_of
-  measured-not {number} {place} h =
+  measured_not {number} {place} h =
       sym (ap (λ (a : Answer (Unit {0})). counts_of (a then λ _. done (print_from texts line line es))) h)
 
   -- none is
-  pub measured-so : {size spilled : ℕ} → check_elements room 0 es ≡ done tt → size ≡ length (print_from texts line line es).bytes
+  pub measured_so : {size spilled : ℕ} → check_elements room 0 es ≡ done tt → size ≡ length (print_from texts line line es).bytes
       → spilled ≡ (print_from texts line line es).spilled
       → done (record { size = size; spilled = spilled }) ≡ counts_of (measured room texts line es)
   unfolding measured ◌then◌ counts_of
-  measured-so {size} {spilled} h n k =
+  measured_so {size} {spilled} h n k =
       (λ i. done (record { size = n i; spilled = k i }))
       ∙ sym (ap (λ (a : Answer (Unit {0})). counts_of (a then λ _. done (print_from texts line line es))) h)
 
   -- a refusal is an element's
-  pub measured-refused : {number place : ℕ} → refused number place ≡ counts_of (measured room texts line es) → check_elements room 0 es ≡ refused number place
+  pub measured_refused : {number place : ℕ} → refused number place ≡ counts_of (measured room texts line es) → check_elements room 0 es ≡ refused number place
   unfolding measured ◌then◌ counts_of
-  measured-refused {number} {place} h = go (check_elements room 0 es) h
+  measured_refused {number} {place} h = go (check_elements room 0 es) h
     where
       go : (a : Answer (Unit {0})) → refused number place ≡ counts_of (a then λ _. done (print_from texts line line es)) → a ≡ refused number place
       go (done tt) e = never_done e
       go (refused n k) e = cc
 
   -- what was measured is what is printed
-  pub measured-printed : {size spilled : ℕ} → done (record { size = size; spilled = spilled }) ≡ counts_of (measured room texts line es)
+  pub measured_printed : {size spilled : ℕ} → done (record { size = size; spilled = spilled }) ≡ counts_of (measured room texts line es)
       → (check_elements room 0 es ≡ done tt) × (size ≡ length (print_from texts line line es).bytes) × (spilled ≡ (print_from texts line line es).spilled)
   unfolding measured ◌then◌ counts_of
-  measured-printed {size} {spilled} h = go (check_elements room 0 es) h
+  measured_printed {size} {spilled} h = go (check_elements room 0 es) h
     where
       go : (a : Answer (Unit {0})) → done (record { size = size; spilled = spilled }) ≡ counts_of (a then λ _. done (print_from texts line line es))
           → (a ≡ done tt) × (size ≡ length (print_from texts line line es).bytes) × (spilled ≡ (print_from texts line line es).spilled)
@@ -106,24 +106,24 @@ most_bytes = (max_elements + 1) * (max_line + 1)
 module _ {line : List ℕ} {es : List Element} {room : ℕ} {found : Fields} {bytes spilled place next used : ℕ}
     (ready : LineReady line es) (listed : Listed line found) (m : Measuring line es room found bytes spilled place next used) where
   -- an element is refused
-  pub measuring-refused : (d : Element) {number k : ℕ} → used < length es → check_element room used (get_or es used d) ≡ refused number k
+  pub measuring_refused : (d : Element) {number k : ℕ} → used < length es → check_element room used (get_or es used d) ≡ refused number k
       → (texts : List ℕ)
       → refused number k ≡ counts_of (measured room texts line es)
-  measuring-refused d h e texts = measured-not room texts line es (sym m.checks ∙ elements_refused room used es d h e)
+  measuring_refused d h e texts = measured_not room texts line es (sym m.checks ∙ elements_refused room used es d h e)
 
   -- the fields have run out: the rest of the line is literal
-  rest-literal : next ≡ found.count → length line ≡ place + length (literals (drop place line))
-  rest-literal e = no-next m.at_field (omega (arith, listed.counted))
+  rest_literal : next ≡ found.count → length line ≡ place + length (literals (drop place line))
+  rest_literal e = no_next m.at_field (omega (arith, listed.counted))
 
   -- the rest of the line is measured, and the line begins again
-  pub measuring-again : used < length es → next ≡ found.count
+  pub measuring_again : used < length es → next ≡ found.count
       → Measuring line es room found (bytes + (length line - place + 1)) spilled 0 0 used
-  measuring-again h e =
-      let first = rest-literal e in
+  measuring_again h e =
+      let first = rest_literal e in
       let same : bytes + (length line - place) + 1 ≡ bytes + (length line - place + 1) = omega arith in
       record {
-        measures = rw same at (place-line (place-literals m.measures first) ready h refl);
-        spills = spills-line (spills-literals m.spills first) ready h refl;
+        measures = rw same at (place_line (place_literals m.measures first) ready h refl);
+        spills = spills_line (spills_literals m.spills first) ready h refl;
         at_field = at_first line;
         few = omega arith;
         within = omega arith;
@@ -131,12 +131,12 @@ module _ {line : List ℕ} {es : List Element} {room : ℕ} {found : Fields} {by
       }
 
   -- an element in the next field is checked and measured
-  pub measuring-turn : {f : Field} {n : ℕ} (d e : Element) → NextField line next place f → used < length es → (next ≡ found.count → ⊥)
+  pub measuring_turn : {f : Field} {n : ℕ} (d e : Element) → NextField line next place f → used < length es → (next ≡ found.count → ⊥)
       → get_or es used d ≡ e
       → check_element room used e ≡ done tt
       → ((field : List ℕ) → f.image ≡ scanned_image field → n ≡ element_spills field e)
       → Measuring line es room found (bytes + (f.start + f.length - place)) (spilled + n) (f.start + f.length) (next + 1) (used + 1)
-  measuring-turn {f} {n} d e x h some same checked spill =
+  measuring_turn {f} {n} d e x h some same checked spill =
       let start : ℕ = f.start in
       let size : ℕ = f.length in
       let more : start ≡ length line → ⊥ = λ z. omega (arith, x.there) in
@@ -145,8 +145,8 @@ module _ {line : List ℕ} {es : List Element} {room : ℕ} {found : Fields} {by
       let counts : n ≡ element_spills (take (start + size - start) (drop start line)) e =
       spill (take (start + size - start) (drop start line)) (x.image_read ∙ ap (λ (k : ℕ). scanned_image (take k (drop start line))) (sym part)) in
       record {
-        measures = rw sum at (turn-place m.measures x.first more x.found h);
-        spills = turn-spills m.measures x.first more x.found d e m.spills h same counts;
+        measures = rw sum at (turn_place m.measures x.first more x.found h);
+        spills = turn_spills m.measures x.first more x.found d e m.spills h same counts;
         at_field = x.on;
         few = omega (arith, m.few);
         within = omega (arith, m.within, some);
@@ -154,46 +154,46 @@ module _ {line : List ℕ} {es : List Element} {room : ℕ} {found : Fields} {by
       }
 
   -- the code's next field
-  pub measuring-field : next < found.count → NextField line next place (get_or found.fields next no_field)
-  measuring-field h =
+  pub measuring_field : next < found.count → NextField line next place (get_or found.fields next no_field)
+  measuring_field h =
       listed_next no_field listed m.at_field h (omega (arith, m.few, m.measures.within, ready.few))
 
   -- the bytes up to its end are not too many
-  pub measuring-field-small : {f : Field} → NextField line next place f → used < length es → bytes + (f.start + f.length - place) ≤ most_bytes
-  measuring-field-small {f} x h =
+  pub measuring_field_small : {f : Field} → NextField line next place f → used < length es → bytes + (f.start + f.length - place) ≤ most_bytes
+  measuring_field_small {f} x h =
       let more : f.start ≡ length line → ⊥ = λ z. omega (arith, x.there) in
-      omega (arith, place-small (turn-place m.measures x.first more x.found h) ready, x.first)
+      omega (arith, place_small (turn_place m.measures x.first more x.found h) ready, x.first)
 
   -- no sum of bytes is too large
-  pub measuring-small : bytes ≤ most_bytes
-  measuring-small = place-small m.measures ready
+  pub measuring_small : bytes ≤ most_bytes
+  measuring_small = place_small m.measures ready
 
   -- the elements have run out: the literal bytes up to the next field, or to the line's end, are the last
-  measuring-last : {start : ℕ} → length es ≤ used → start ≡ place + length (literals (drop place line))
+  measuring_last : {start : ℕ} → length es ≤ used → start ≡ place + length (literals (drop place line))
       → (texts : List ℕ)
       → done (record { size = bytes + (start - place); spilled = spilled }) ≡ counts_of (measured room texts line es)
-  measuring-last {start} u first texts =
+  measuring_last {start} u first texts =
       let all : used ≡ length es = omega (arith, m.measures.within) in
-      measured-so room texts line es
+      measured_so room texts line es
       (sym m.checks ∙ elements_end room used es u)
-      (place-ends (place-literals m.measures first) all (literals_at line place first) texts)
-      (spills-end m.spills all texts)
+      (place_ends (place_literals m.measures first) all (literals_at line place first) texts)
+      (spills_end m.spills all texts)
 
   -- before a field
-  pub measuring-ends : {f : Field} → length es ≤ used → NextField line next place f
+  pub measuring_ends : {f : Field} → length es ≤ used → NextField line next place f
       → (texts : List ℕ)
       → done (record { size = bytes + (f.start - place); spilled = spilled }) ≡ counts_of (measured room texts line es)
-  measuring-ends u x texts = measuring-last u x.first texts
+  measuring_ends u x texts = measuring_last u x.first texts
 
   -- at the line's end
-  pub measuring-over : length es ≤ used → found.count ≤ next
+  pub measuring_over : length es ≤ used → found.count ≤ next
       → (texts : List ℕ)
       → done (record { size = bytes + (length line - place); spilled = spilled }) ≡ counts_of (measured room texts line es)
-  measuring-over u n texts = measuring-last u (rest-literal (omega (arith, m.within))) texts
+  measuring_over u n texts = measuring_last u (rest_literal (omega (arith, m.within))) texts
 
   -- and no sum is too large there
-  pub measuring-end-small : {f : Field} → NextField line next place f → bytes + (f.start - place) ≤ most_bytes
-  measuring-end-small x = place-small (place-literals m.measures x.first) ready
+  pub measuring_end_small : {f : Field} → NextField line next place f → bytes + (f.start - place) ≤ most_bytes
+  measuring_end_small x = place_small (place_literals m.measures x.first) ready
 
-  pub measuring-over-small : found.count ≤ next → bytes + (length line - place) ≤ most_bytes
-  measuring-over-small n = place-small (place-literals m.measures (rest-literal (omega (arith, m.within)))) ready
+  pub measuring_over_small : found.count ≤ next → bytes + (length line - place) ≤ most_bytes
+  measuring_over_small n = place_small (place_literals m.measures (rest_literal (omega (arith, m.within)))) ready

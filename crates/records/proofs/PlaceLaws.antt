@@ -12,7 +12,7 @@ use lib.Seq.{drop-drop, drop-length, take_at, drop_at, take-add}
 use Rattle.decimal.specs.Answer.{Answer, done, refused}
 use Rattle.decimal.specs.declared.number.Number.{Number}
 use Rattle.decimal.specs.Number.{zero_number}
-use Rattle.codec.proofs.ListLaws.{default_free, filled-length, filled_at}
+use Rattle.codec.proofs.ListLaws.{default_free, filled_length, filled_at}
 use Rattle.records.specs.declared.fields.Element.{Element}
 use Rattle.records.specs.declared.fields.Element.TheVariants as element
 use Rattle.records.specs.Scanning.{field_length}
@@ -59,9 +59,9 @@ place_starts line es = record { inside = omega arith; within = omega arith; stan
 
 module _ {line : List ℕ} {es : List Element} {used from out : ℕ} where
   -- behind the literal bytes
-  pub place-literals : {start : ℕ} → Place line es used from out → start ≡ from + length (literals (drop from line))
+  pub place_literals : {start : ℕ} → Place line es used from out → start ≡ from + length (literals (drop from line))
       → Place line es used start (out + (start - from))
-  place-literals {start} p h =
+  place_literals {start} p h =
       let f = (literals_front (drop from line)).0 in
       record {
         inside = omega (arith, f, length-drop from line, p.inside);
@@ -70,9 +70,9 @@ module _ {line : List ℕ} {es : List Element} {used from out : ℕ} where
       }
 
   -- behind a field
-  pub place-field : {size : ℕ} → Place line es used from out → used < length es → size ≡ field_length (drop from line) → (size ≡ 0 → ⊥)
+  pub place_field : {size : ℕ} → Place line es used from out → used < length es → size ≡ field_length (drop from line) → (size ≡ 0 → ⊥)
       → Place line es (used + 1) (from + size) (out + size)
-  place-field {size} p h e n =
+  place_field {size} p h e n =
       let d : Element = element.Text 0 0 in
       let m : field_length (drop from line) ≡ 0 → ⊥ = λ z. n (e ∙ z) in
       record {
@@ -87,9 +87,9 @@ module _ {line : List ℕ} {es : List Element} {used from out : ℕ} where
       }
 
   -- at the next line's start
-  pub place-line : Place line es used from out → LineReady line es → used < length es → from ≡ length line
+  pub place_line : Place line es used from out → LineReady line es → used < length es → from ≡ length line
       → Place line es used 0 (out + 1)
-  place-line p r h e =
+  place_line p r h e =
       record {
         inside = omega arith;
         within = p.within;
@@ -97,18 +97,18 @@ module _ {line : List ℕ} {es : List Element} {used from out : ℕ} where
       }
 
   -- where no element and no literal byte is left, all is printed
-  pub place-ends : Place line es used from out → used ≡ length es → literals (drop from line) ≡ []
+  pub place_ends : Place line es used from out → used ≡ length es → literals (drop from line) ≡ []
       → (texts : List ℕ)
       → out ≡ length (print_from texts line line es).bytes
-  place-ends p u n texts =
+  place_ends p u n texts =
       let z : drop used es ≡ [] = ap (λ (k : ℕ). drop k es) u ∙ drop-length es in
       let last : print_from texts line (drop from line) (drop used es) ≡ nothing =
       ap (print_from texts line (drop from line)) z ∙ print_ends texts line (drop from line) n in
       omega (arith, (p.stands texts).size, ap (λ (x : Print). length x.bytes) last)
 
   -- no sum of bytes is too large
-  pub place-small : Place line es used from out → LineReady line es → out ≤ (max_elements + 1) * (max_line + 1)
-  place-small p r = omega (arith, (p.stands []).size, print_small [] line es r)
+  pub place_small : Place line es used from out → LineReady line es → out ≤ (max_elements + 1) * (max_line + 1)
+  place_small p r = omega (arith, (p.stands []).size, print_small [] line es r)
 
 -- The count of spilled elements.
 
@@ -149,19 +149,19 @@ spills_start line es = record { few = omega arith; counted = λ texts. zero-add 
 
 module _ {line : List ℕ} {es : List Element} {used from spilled : ℕ} where
   -- behind the literal bytes
-  pub spills-literals : {start : ℕ} → Spills line es used from spilled → start ≡ from + length (literals (drop from line))
+  pub spills_literals : {start : ℕ} → Spills line es used from spilled → start ≡ from + length (literals (drop from line))
       → Spills line es used start spilled
-  spills-literals {start} p h =
+  spills_literals {start} p h =
       record {
         few = p.few;
         counted = λ texts. omega (arith, p.counted texts, step_spills (step_literals texts line (drop used es) from start h));
       }
 
   -- behind a field
-  pub spills-field : {size : ℕ} (d : Element) {n : ℕ} → Spills line es used from spilled → used < length es → size ≡ field_length (drop from line) → (size ≡ 0 → ⊥)
+  pub spills_field : {size : ℕ} (d : Element) {n : ℕ} → Spills line es used from spilled → used < length es → size ≡ field_length (drop from line) → (size ≡ 0 → ⊥)
       → n ≡ element_spills (take size (drop from line)) (get_or es used d)
       → Spills line es (used + 1) (from + size) (spilled + n)
-  spills-field {size} d {n} p h e m k =
+  spills_field {size} d {n} p h e m k =
       let t : field_length (drop from line) ≡ 0 → ⊥ = λ z. m (e ∙ z) in
       let once : n ≤ 1 = rw k (spills_once (take size (drop from line)) (get_or es used d)) in
       let f : n ≡ element_spills (take (field_length (drop from line)) (drop from line)) (get_or es used d) =
@@ -174,20 +174,20 @@ module _ {line : List ℕ} {es : List Element} {used from spilled : ℕ} where
       }
 
   -- at the next line's start
-  pub spills-line : Spills line es used from spilled → LineReady line es → used < length es → from ≡ length line
+  pub spills_line : Spills line es used from spilled → LineReady line es → used < length es → from ≡ length line
       → Spills line es used 0 spilled
-  spills-line p r h e =
+  spills_line p r h e =
       record {
         few = p.few;
         counted = λ texts. omega (arith, p.counted texts, step_spills (step_line texts line es used from h (ready_field line es r (omega arith)) e));
       }
 
   -- where no element is left, all are counted
-  pub spills-end : Spills line es used from spilled → used ≡ length es
+  pub spills_end : Spills line es used from spilled → used ≡ length es
       → (texts : List ℕ)
       → spilled ≡ (print_from texts line line es).spilled
   unfolding print_from
-  spills-end p u texts =
+  spills_end p u texts =
       let z : drop used es ≡ [] = ap (λ (k : ℕ). drop k es) u ∙ drop-length es in
       let last : (print_from texts line (drop from line) (drop used es)).spilled ≡ 0 =
       ap (λ (x : List Element). (print_from texts line (drop from line) x).spilled) z in
@@ -221,7 +221,7 @@ field_at line from {start} h i l z =
 -- there are as many as counted
 pub elements_count : (elements : List Element) (count : ℕ) → length (element_list elements count) ≡ count
 unfolding element_list
-elements_count elements count = filled-length (element.Number zero_number) count elements
+elements_count elements count = filled_length (element.Number zero_number) count elements
 
 -- what stands for an element behind an array's end
 abbrev pub zero_element : Element
@@ -244,37 +244,37 @@ reached_at {line} {from} {start} first r h = rw first (reached_next r)
 module _ {line : List ℕ} {es : List Element} {used from out start size : ℕ} (p : Place line es used from out)
     (first : start ≡ from + length (literals (drop from line))) (more : start ≡ length line → ⊥) (found : size ≡ field_length (drop start line)) where
   -- a field is found
-  pub turn-some : size ≡ 0 → ⊥
-  turn-some z =
-      let q = place-literals p first in
+  pub turn_some : size ≡ 0 → ⊥
+  turn_some z =
+      let q = place_literals p first in
       let less : start < length line = omega (arith, q.inside, more) in
       field_at line from first p.inside less (sym found ∙ z)
 
   -- the place behind it
-  pub turn-place : used < length es → Place line es (used + 1) (start + size) (out + (start - from) + size)
-  turn-place h = place-field (place-literals p first) h found turn-some
+  pub turn_place : used < length es → Place line es (used + 1) (start + size) (out + (start - from) + size)
+  turn_place h = place_field (place_literals p first) h found turn_some
 
   -- the code's part of the line is the field
-  pub turn-part : take (start + size - start) (drop start line) ≡ take (field_length (drop start line)) (drop start line)
-  turn-part = let e : start + size - start ≡ field_length (drop start line) = omega arith in ap (λ (k : ℕ). take k (drop start line)) e
+  pub turn_part : take (start + size - start) (drop start line) ≡ take (field_length (drop start line)) (drop start line)
+  turn_part = let e : start + size - start ≡ field_length (drop start line) = omega arith in ap (λ (k : ℕ). take k (drop start line)) e
 
   -- the field can be filled
-  pub turn-ready : check_fields 0 0 line ≡ done tt → Reached line from → FieldReady (take (start + size - start) (drop start line))
-  turn-ready c r =
-      let some : field_length (drop start line) ≡ 0 → ⊥ = λ z. turn-some (found ∙ z) in
-      rw turn-part (reached_ready c (reached_at first r p.inside) some)
+  pub turn_ready : check_fields 0 0 line ≡ done tt → Reached line from → FieldReady (take (start + size - start) (drop start line))
+  turn_ready c r =
+      let some : field_length (drop start line) ≡ 0 → ⊥ = λ z. turn_some (found ∙ z) in
+      rw turn_part (reached_ready c (reached_at first r p.inside) some)
 
   -- the place behind it is reached
-  pub turn-reached : Reached line from → Reached line (start + size)
-  turn-reached r =
-      let some : field_length (drop start line) ≡ 0 → ⊥ = λ z. turn-some (found ∙ z) in
+  pub turn_reached : Reached line from → Reached line (start + size)
+  turn_reached r =
+      let some : field_length (drop start line) ≡ 0 → ⊥ = λ z. turn_some (found ∙ z) in
       rw found (after_field (reached_at first r p.inside) some refl)
 
   -- the spilled elements behind it
-  pub turn-spills : {spilled n : ℕ} (d e : Element) → Spills line es used from spilled → used < length es → get_or es used d ≡ e
+  pub turn_spills : {spilled n : ℕ} (d e : Element) → Spills line es used from spilled → used < length es → get_or es used d ≡ e
       → n ≡ element_spills (take (start + size - start) (drop start line)) e
       → Spills line es (used + 1) (start + size) (spilled + n)
-  turn-spills {spilled} {n} d e s h same k =
+  turn_spills {spilled} {n} d e s h same k =
       let f : n ≡ element_spills (take size (drop start line)) (get_or es used d) =
-      k ∙ ap₂ element_spills (turn-part ∙ ap (λ (x : ℕ). take x (drop start line)) (sym found)) (sym same) in
-      spills-field d (spills-literals s first) h found turn-some f
+      k ∙ ap₂ element_spills (turn_part ∙ ap (λ (x : ℕ). take x (drop start line)) (sym found)) (sym same) in
+      spills_field d (spills_literals s first) h found turn_some f

@@ -7,7 +7,7 @@ use native.Mathlib.Numerals.{add-one}
 use lib.ListN.{length, take, drop, get_or, set}
 use lib.Seq.{take_all, length-take-le, set_split}
 use Rattle.codec.specs.Answers.{written}
-use Rattle.codec.proofs.BufferLaws.{written_none, written_next, written-length}
+use Rattle.codec.proofs.BufferLaws.{written_none, written_next, written_length}
 use Rattle.records.specs.declared.fields.Element.{Element}
 use Rattle.records.specs.declared.fields.Element.TheVariants as element
 use Rattle.records.specs.Scanning.{field_length}
@@ -16,7 +16,7 @@ use Rattle.codec.specs.Walking.{line_end}
 use Rattle.records.specs.Printing.{literals, Print, print_from, LineReady}
 use Rattle.records.proofs.PrintLaws.{Step, literals_front, step_element, step_length_lem, step_line, step_literals}
 use Rattle.records.proofs.BoundLaws.{field_length_lem, ready_field}
-use Rattle.records.proofs.PlaceLaws.{Place, Stands, front_next, place-ends}
+use Rattle.records.proofs.PlaceLaws.{Place, Stands, front_next, place_ends}
 
 -- The buffer.
 
@@ -47,24 +47,24 @@ writing_starts entry texts line es h = record { room = h; holds = sym (written_n
 module _ {entry texts line : List ℕ} {es : List Element} {p : Print} {out : ℕ} {buffer : List ℕ} (w : Writing entry texts line es out buffer)
     (h : Stands (print_from texts line line es) out p) where
   -- what was written is as long as counted
-  front-size : length (take out (print_from texts line line es).bytes) ≡ out
-  front-size = length-take-le out (print_from texts line line es).bytes (omega (arith, h.size))
+  front_size : length (take out (print_from texts line line es).bytes) ≡ out
+  front_size = length-take-le out (print_from texts line line es).bytes (omega (arith, h.size))
 
   -- the buffer keeps its length
-  pub writing-length : length buffer ≡ length entry
-  writing-length =
-      ap length w.holds ∙ written-length entry 0 (take out (print_from texts line line es).bytes) (omega (arith, front-size, w.room, h.size))
+  pub writing_length : length buffer ≡ length entry
+  writing_length =
+      ap length w.holds ∙ written_length entry 0 (take out (print_from texts line line es).bytes) (omega (arith, front_size, w.room, h.size))
 
   -- a step has room
-  pub writing-room : {q : Print} {b : List ℕ} {s : ℕ} → Step p b s q → out + length b ≤ length buffer
-  writing-room st = omega (arith, writing-length, step_length_lem st, h.size, w.room)
+  pub writing_room : {q : Print} {b : List ℕ} {s : ℕ} → Step p b s q → out + length b ≤ length buffer
+  writing_room st = omega (arith, writing_length, step_length_lem st, h.size, w.room)
 
   -- one step on
-  pub writing-next : {q : Print} {b next : List ℕ} {s : ℕ} (n : ℕ) → Step p b s q → length b ≡ n → next ≡ written buffer out b
+  pub writing_next : {q : Print} {b next : List ℕ} {s : ℕ} (n : ℕ) → Step p b s q → length b ≡ n → next ≡ written buffer out b
       → Writing entry texts line es (out + n) next
-  writing-next {q} {b} {next} {s} n st l e =
+  writing_next {q} {b} {next} {s} n st l e =
       let front : List ℕ = take out (print_from texts line line es).bytes in
-      let place : 0 + length front ≡ out = omega (arith, front-size) in
+      let place : 0 + length front ≡ out = omega (arith, front_size) in
       record {
         room = w.room;
         holds =
@@ -79,63 +79,63 @@ module _ {line texts : List ℕ} {es : List Element} {used from out : ℕ} {entr
   -- the literal bytes have room
   pub literals_room : {start : ℕ} → start ≡ from + length (literals (drop from line)) → out + (start - from) ≤ length buffer
   literals_room {start} first =
-      omega (arith, writing-room w (p.stands texts) (step_literals texts line (drop used es) from start first))
+      omega (arith, writing_room w (p.stands texts) (step_literals texts line (drop used es) from start first))
 
   -- the literal bytes are written
-  pub writing-literals : {start : ℕ} {next : List ℕ} → start ≡ from + length (literals (drop from line))
+  pub writing_literals : {start : ℕ} {next : List ℕ} → start ≡ from + length (literals (drop from line))
       → next ≡ written buffer out (take (start - from) (drop from line))
       → Writing entry texts line es (out + (start - from)) next
-  writing-literals {start} {next} first e =
+  writing_literals {start} {next} first e =
       let n : start - from ≡ length (literals (drop from line)) = omega arith in
-      writing-next w (p.stands texts) (start - from)
+      writing_next w (p.stands texts) (start - from)
       (step_literals texts line (drop used es) from start first)
       (sym n)
       (e ∙ ap (written buffer out) (ap (λ (k : ℕ). take k (drop from line)) n ∙ (literals_front (drop from line)).1))
 
   -- an element has room
-  pub element-room : {size : ℕ} → used < length es → size ≡ field_length (drop from line) → (size ≡ 0 → ⊥) → out + size ≤ length buffer
-  element-room {size} h found n =
+  pub element_room : {size : ℕ} → used < length es → size ≡ field_length (drop from line) → (size ≡ 0 → ⊥) → out + size ≤ length buffer
+  element_room {size} h found n =
       let d : Element = element.Text 0 0 in
       let m : field_length (drop from line) ≡ 0 → ⊥ = λ z. n (found ∙ z) in
       omega (
         arith,
-        writing-room w (p.stands texts) (step_element texts line es used from d h m),
+        writing_room w (p.stands texts) (step_element texts line es used from d h m),
         field_length_lem texts (drop from line) (get_or es used d) m,
       )
 
   -- an element is written
-  pub writing-element : {size : ℕ} {next : List ℕ} (d e : Element) → used < length es → size ≡ field_length (drop from line) → (size ≡ 0 → ⊥) → get_or es used d ≡ e
+  pub writing_element : {size : ℕ} {next : List ℕ} (d e : Element) → used < length es → size ≡ field_length (drop from line) → (size ≡ 0 → ⊥) → get_or es used d ≡ e
       → next ≡ written buffer out (element_bytes texts (take (from + size - from) (drop from line)) e)
       → Writing entry texts line es (out + size) next
-  writing-element {size} {next} d e h found n same k =
+  writing_element {size} {next} d e h found n same k =
       let m : field_length (drop from line) ≡ 0 → ⊥ = λ z. n (found ∙ z) in
       let part : from + size - from ≡ field_length (drop from line) = omega arith in
-      writing-next w (p.stands texts) size
+      writing_next w (p.stands texts) size
       (step_element texts line es used from d h m)
       (field_length_lem texts (drop from line) (get_or es used d) m ∙ sym found)
       (k ∙ ap₂ (λ (i : ℕ) (x : Element). written buffer out (element_bytes texts (take i (drop from line)) x)) part (sym same))
 
   -- 0A has room
-  pub line-room : LineReady line es → used < length es → from ≡ length line → out < length buffer
-  line-room r h over =
+  pub line_room : LineReady line es → used < length es → from ≡ length line → out < length buffer
+  line_room r h over =
       omega (
         arith,
-        writing-room w (p.stands texts) (step_line texts line es used from h (ready_field line es r (omega arith)) over),
+        writing_room w (p.stands texts) (step_line texts line es used from h (ready_field line es r (omega arith)) over),
       )
 
   -- 0A is written
-  pub writing-line : {next : List ℕ} → LineReady line es → used < length es → from ≡ length line → next ≡ set buffer out line_end
+  pub writing_line : {next : List ℕ} → LineReady line es → used < length es → from ≡ length line → next ≡ set buffer out line_end
       → Writing entry texts line es (out + 1) next
-  writing-line {next} r h over e =
-      writing-next w (p.stands texts) 1
+  writing_line {next} r h over e =
+      writing_next w (p.stands texts) 1
       (step_line texts line es used from h (ready_field line es r (omega arith)) over)
       refl
-      (e ∙ written_one buffer out line_end (line-room r h over))
+      (e ∙ written_one buffer out line_end (line_room r h over))
 
   -- all is written
-  pub writing-ends : used ≡ length es → literals (drop from line) ≡ []
+  pub writing_ends : used ≡ length es → literals (drop from line) ≡ []
       → buffer ≡ written entry 0 (print_from texts line line es).bytes
-  writing-ends u n =
+  writing_ends u n =
       w.holds
       ∙ ap (written entry 0)
-      (take_all out (print_from texts line line es).bytes (omega (arith, place-ends p u n texts)))
+      (take_all out (print_from texts line line es).bytes (omega (arith, place_ends p u n texts)))

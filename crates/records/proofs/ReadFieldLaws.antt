@@ -133,15 +133,15 @@ long_refused m field long = converts_none (without_marks m field) (λ t form. om
 
 module _ (m : Marks) (field : List ℕ) (j : ℕ) (inside : j < length field) where
   -- a byte is dropped
-  pub drops-byte : is_dropped m (get_or field j 0) ≡ true → without_marks m (drop j field) ≡ without_marks m (drop (j + 1) field)
+  pub drops_byte : is_dropped m (get_or field j 0) ≡ true → without_marks m (drop j field) ≡ without_marks m (drop (j + 1) field)
   unfolding without_marks
-  drops-byte e =
+  drops_byte e =
       ap (without_marks m) (drop-cons field j 0 inside) ∙ rw e (ap (λ (k : ℕ). without_marks m (drop k field)) (sym (add-one j)))
 
   -- or it is kept
-  pub keeps-byte : is_dropped m (get_or field j 0) ≡ false → without_marks m (drop j field) ≡ read_byte m (get_or field j 0) ∷ without_marks m (drop (j + 1) field)
+  pub keeps_byte : is_dropped m (get_or field j 0) ≡ false → without_marks m (drop j field) ≡ read_byte m (get_or field j 0) ∷ without_marks m (drop (j + 1) field)
   unfolding without_marks
-  keeps-byte e =
+  keeps_byte e =
       ap (without_marks m) (drop-cons field j 0 inside)
       ∙ rw e (ap (λ (k : ℕ). read_byte m (get_or field j 0) ∷ without_marks m (drop k field)) (sym (add-one j)))
 

@@ -16,11 +16,11 @@ use Rattle.codec.specs.Columns.{AllChecked, none, more}
 use Rattle.codec.specs.Answers.{written, sized, write_meaning}
 use Rattle.codec.specs.Alpha.{blank_byte, alpha_under, alpha_texts, parted, writing_alpha_under}
 use Rattle.decimal.proofs.AnswerLaws.{never_done}
-use Rattle.codec.proofs.LineLaws.{texts-view}
+use Rattle.codec.proofs.LineLaws.{texts_view}
 use Rattle.codec.specs.Walking.{line_end}
 use Rattle.records.specs.Listing.{record_line, HasTexts}
-use Rattle.records.proofs.WritingLaws.{written_empty, kept-length, next-bytes, next-byte, part_behind, behind_all}
-use Rattle.records.proofs.ReportLaws.{within-some}
+use Rattle.records.proofs.WritingLaws.{written_empty, kept_length, next_bytes, next_byte, part_behind, behind_all}
+use Rattle.records.proofs.ReportLaws.{within_some}
 
 -- The texts of a record, one after the other.
 
@@ -84,10 +84,10 @@ unfolding alpha_texts
 texts_at none ns {texts} h k d e l = let z : [] ≡ texts = cc in absurd (omega (arith, ap length z))
 texts_at (more c cs) [] {texts} h k d e l = let z : [] ≡ texts = cc in absurd (omega (arith, ap length z))
 texts_at (more {im} {ims} c cs) (n ∷ ns) {texts} h zero d e l =
-    let s = texts-view im ims c n ns h in
+    let s = texts_view im ims c n ns h in
     s.first ∙ ap (λ (x : List (List ℕ)). done (get_or x 0 [])) s.joined
 texts_at (more {im} {ims} c cs) (n ∷ ns) {texts} h (suc k) d e l =
-    let s = texts-view im ims c n ns h in
+    let s = texts_view im ims c n ns h in
     let long = ap length s.joined in
     texts_at cs ns s.rest k d e (omega arith) ∙ ap (λ (x : List (List ℕ)). done (get_or x (suc k) [])) s.joined
 
@@ -98,7 +98,7 @@ text_given :
     → length text ≤ room
     → writing_alpha_under im n room ≡ done text
 unfolding writing_alpha_under ◌then◌
-text_given im n room {text} h l = rw h (within-some room text l)
+text_given im n room {text} h l = rw h (within_some room text l)
 
 -- a record's line and its end
 pub line_length_lem : (texts : List (List ℕ)) → length (record_line texts) ≡ suc (length (parted texts))
@@ -140,15 +140,15 @@ module _
     (t : Texting texts buffer start now out k)
     (room : start + length (record_line texts) ≤ length buffer) where
   -- the buffer keeps its length
-  pub texting-kept : length now ≡ length buffer
-  texting-kept =
+  pub texting_kept : length now ≡ length buffer
+  texting_kept =
       let few = parted_few k texts in
       let size = line_length_lem texts in
-      kept-length buffer start (parted (take k texts)) t.holds t.ends (omega (arith, t.ends))
+      kept_length buffer start (parted (take k texts)) t.holds t.ends (omega (arith, t.ends))
 
   -- there is room for one byte more
-  pub texting-room : out < length now
-  texting-room = omega (arith, texting-kept, t.ends, parted_few k texts, line_length_lem texts)
+  pub texting_room : out < length now
+  texting_room = omega (arith, texting_kept, t.ends, parted_few k texts, line_length_lem texts)
 
   -- nothing stands before the first text
   pub separated_first :
@@ -167,33 +167,33 @@ module _
       }
 
   -- and a blank before each other
-  pub separated-next :
+  pub separated_next :
       0 < k
       → {then-now : List ℕ} {then-out : ℕ}
       → then-now ≡ set now out blank_byte
       → then-out ≡ out + 1
       → Separated texts buffer start then-now then-out k
-  separated-next h p q =
+  separated_next h p q =
       let front : List ℕ = parted (take k texts) in
       let same : front ++ (blank_byte ∷ []) ≡ front ++ separator k = ap (λ (l : List ℕ). front ++ l) (sym (separator_blank k h)) in
       record {
         ends = omega (arith, q, t.ends, ap length same, length-append front (blank_byte ∷ []));
         holds =
             p
-            ∙ next-byte buffer start front t.holds t.ends blank_byte (omega (arith, texting-room, texting-kept))
+            ∙ next_byte buffer start front t.holds t.ends blank_byte (omega (arith, texting_room, texting_kept))
             ∙ ap (λ (l : List ℕ). written buffer start l) same;
       }
 
   -- all texts and the end of the line
-  pub texting-ends :
+  pub texting_ends :
       k ≡ length texts
       → (out + 1 ≡ start + length (record_line texts)) × (set now out line_end ≡ written buffer start (record_line texts))
   unfolding record_line
-  texting-ends e =
+  texting_ends e =
       let front : List ℕ = parted (take k texts) in
       let all : front ≡ parted texts = ap parted (take_all k texts (omega arith)) in (
         omega (arith, t.ends, ap length all, line_length_lem texts),
-        next-byte buffer start front t.holds t.ends line_end (omega (arith, texting-room, texting-kept))
+        next_byte buffer start front t.holds t.ends line_end (omega (arith, texting_room, texting_kept))
             ∙ ap (λ (l : List ℕ). written buffer start (l ++ (line_end ∷ []))) all,
       )
 
@@ -203,26 +203,26 @@ module _
     (room : start + length (record_line texts) ≤ length buffer)
     (h : k < length texts) where
   -- the length of what is written so far
-  separated-length : length (parted (take k texts) ++ separator k) ≡ length (parted (take k texts)) + length (separator k)
-  separated-length = length-append (parted (take k texts)) (separator k)
+  separated_length : length (parted (take k texts) ++ separator k) ≡ length (parted (take k texts)) + length (separator k)
+  separated_length = length-append (parted (take k texts)) (separator k)
 
   -- the buffer keeps its length
-  pub separated-kept : length now ≡ length buffer
-  separated-kept =
+  pub separated_kept : length now ≡ length buffer
+  separated_kept =
       let fits = texts_room texts k h in
-      kept-length buffer start (parted (take k texts) ++ separator k) s.holds s.ends (omega (arith, s.ends, separated-length))
+      kept_length buffer start (parted (take k texts) ++ separator k) s.holds s.ends (omega (arith, s.ends, separated_length))
 
   -- there is room for the text
-  pub separated-room : out + length (get_or texts k []) ≤ length now
-  separated-room = omega (arith, s.ends, separated-length, texts_room texts k h, separated-kept)
+  pub separated_room : out + length (get_or texts k []) ≤ length now
+  separated_room = omega (arith, s.ends, separated_length, texts_room texts k h, separated_kept)
 
   -- it is written
-  pub texting-turns :
+  pub texting_turns :
       {then-out : ℕ} {then-now : List ℕ}
       → then-out ≡ out + length (get_or texts k [])
       → then-now ≡ written now out (get_or texts k [])
       → Texting texts buffer start then-now then-out (k + 1)
-  texting-turns e w =
+  texting_turns e w =
       let front : List ℕ = parted (take k texts) ++ separator k in
       let text : List ℕ = get_or texts k [] in
       let more : parted (take (k + 1) texts) ≡ front ++ text =
@@ -231,49 +231,49 @@ module _
         ends = omega (arith, e, s.ends, ap length more, length-append front text);
         holds =
             w
-            ∙ next-bytes buffer start front s.holds s.ends text (omega (arith, separated-room, separated-kept))
+            ∙ next_bytes buffer start front s.holds s.ends text (omega (arith, separated_room, separated_kept))
             ∙ ap (λ (l : List ℕ). written buffer start l) (sym more);
       }
 
 -- The texts of the numbers of an array, each under its image.
 module _ (images : List Image) (values : List Number) (count : ℕ) (has : HasTexts (take count images) (take count values)) where
   -- the texts
-  abbrev textsOf : List (List ℕ)
-  textsOf = given (alpha_texts (take count images) (take count values))
+  abbrev texts_of : List (List ℕ)
+  texts_of = given (alpha_texts (take count images) (take count values))
 
   -- they exist
-  texts-exist : alpha_texts (take count images) (take count values) ≡ done textsOf
+  texts_exist : alpha_texts (take count images) (take count values) ≡ done texts_of
   unfolding given
-  texts-exist = let e = has.exist in e ∙ ap {B = Answer (List (List ℕ))} done (sym (ap given e))
+  texts_exist = let e = has.exist in e ∙ ap {B = Answer (List (List ℕ))} done (sym (ap given e))
 
   -- one for each column
-  pub texts-long : count ≤ length images → length textsOf ≡ count
+  pub texts_long : count ≤ length images → length texts_of ≡ count
   unfolding given
-  texts-long h = ap length (ap given has.exist) ∙ has.counted ∙ length-take-le count images h
+  texts_long h = ap length (ap given has.exist) ∙ has.counted ∙ length-take-le count images h
 
   -- each the text under its image
-  pub text-under :
+  pub text_under_lem :
       count ≤ length images
       → (k : ℕ) (d : Image) (e : Number)
       → k < count
-      → alpha_under (get_or images k d) (get_or values k e) ≡ done (get_or textsOf k [])
-  text-under h k d e l =
+      → alpha_under (get_or images k d) (get_or values k e) ≡ done (get_or texts_of k [])
+  text_under_lem h k d e l =
       sym (ap₂ (λ (im : Image) (n : Number). alpha_under im n) (get_or-take count images k d l) (get_or-take count values k e l))
-      ∙ texts_at has.checked (take count values) texts-exist k d e (omega (arith, texts-long h))
+      ∙ texts_at has.checked (take count values) texts_exist k d e (omega (arith, texts_long h))
 
 -- What a call that writes a text tells.
 module _ (answer : WriteAnswer) (text : List ℕ) (h : write_meaning answer ≡ sized (done text)) where
   -- its length
-  pub wrote-length : {size : ℕ} → answer ≡ writes.Written size → size ≡ length text
+  pub wrote_length : {size : ℕ} → answer ≡ writes.Written size → size ≡ length text
   unfolding sized
-  wrote-length {size} e =
+  wrote_length {size} e =
       let same : ◌≡◌ {A = Answer ℕ} (done size) (done (length text)) = sym (ap write_meaning e) ∙ h in
       cc
 
   -- it is not refused
-  pub wrote-some : {B : Type 0} {refusal : Refusal} → answer ≡ writes.Refused refusal → B
+  pub wrote_some : {B : Type 0} {refusal : Refusal} → answer ≡ writes.Refused refusal → B
   unfolding sized
-  wrote-some {B} {refusal} e = never_done (sym (ap write_meaning e) ∙ h)
+  wrote_some {B} {refusal} e = never_done (sym (ap write_meaning e) ∙ h)
 
 -- a part of a buffer, from a place on to the end, has room for a text that ends within the buffer
 pub part_given :

@@ -14,10 +14,10 @@ use Rattle.codec.specs.Columns.{body_size}
 use Rattle.codec.specs.Contents.{Table}
 use Rattle.codec.specs.Answers.{written}
 use Rattle.codec.proofs.FrontLaws.{contents_same}
-use Rattle.codec.proofs.BufferLaws.{written-length}
+use Rattle.codec.proofs.BufferLaws.{written_length}
 use Rattle.records.specs.Files.{read_file, record_count, part_of, shown_part}
 use Rattle.records.specs.Adding.{Replaces}
-use Rattle.records.proofs.FileLaws.{file-done, file-told, record_inside, shown-there}
+use Rattle.records.proofs.FileLaws.{file_done, file_told, record_inside, shown_there}
 
 -- Parts of bytes with others written over them.
 
@@ -32,23 +32,23 @@ module _ (bytes : List ℕ) (start : ℕ) (middle : List ℕ) (h : start + lengt
   front_length = length-take-le start bytes (omega arith)
 
   -- and with them
-  both-length : length (take start bytes ++ middle) ≡ start + length middle
-  both-length = length-append (take start bytes) middle ∙ ap (λ (k : ℕ). k + length middle) front_length
+  both_length : length (take start bytes ++ middle) ≡ start + length middle
+  both_length = length-append (take start bytes) middle ∙ ap (λ (k : ℕ). k + length middle) front_length
 
   -- the written bytes
-  written-there : take (length middle) (drop start (written bytes start middle)) ≡ middle
+  written_there : take (length middle) (drop start (written bytes start middle)) ≡ middle
   unfolding written
-  written-there =
-      first_part (take start bytes ++ middle) (drop (start + length middle) bytes) start (length middle) (omega (arith, both-length))
+  written_there =
+      first_part (take start bytes ++ middle) (drop (start + length middle) bytes) start (length middle) (omega (arith, both_length))
       ∙ ap (take (length middle)) (drop_at (take start bytes) middle start front_length)
       ∙ take-length middle
 
   -- a part before them stays
-  written-before : (k m : ℕ) → k + m ≤ start → take m (drop k (written bytes start middle)) ≡ take m (drop k bytes)
+  written_before : (k m : ℕ) → k + m ≤ start → take m (drop k (written bytes start middle)) ≡ take m (drop k bytes)
   unfolding written
-  written-before k m b =
+  written_before k m b =
       let inside : k + m ≤ length (take start bytes) = omega (arith, front_length) in
-      first_part (take start bytes ++ middle) (drop (start + length middle) bytes) k m (omega (arith, both-length))
+      first_part (take start bytes ++ middle) (drop (start + length middle) bytes) k m (omega (arith, both_length))
       ∙ first_part (take start bytes) middle k m inside
       ∙ sym (first_part (take start bytes) (drop start bytes) k m inside)
       ∙ ap (λ (l : List ℕ). take m (drop k l)) (take-append-drop start bytes)
@@ -61,7 +61,7 @@ module _ (bytes : List ℕ) (start : ℕ) (middle : List ℕ) (h : start + lengt
       let split : n + (k - n) ≡ k = omega arith in
       ap (λ (i : ℕ). drop i (take start bytes ++ middle ++ drop n bytes)) (sym split)
       ∙ sym (drop-drop (k - n) n (take start bytes ++ middle ++ drop n bytes))
-      ∙ ap (drop (k - n)) (drop_at (take start bytes ++ middle) (drop n bytes) n both-length)
+      ∙ ap (drop (k - n)) (drop_at (take start bytes ++ middle) (drop n bytes) n both_length)
       ∙ drop-drop (k - n) n bytes
       ∙ ap (λ (i : ℕ). drop i bytes) split
 
@@ -85,13 +85,13 @@ module _ (file : List ℕ) (r : ℕ) (body : List ℕ) (table : Table) (reads : 
 
   -- the file keeps its length
   same_length : length after ≡ length file
-  same_length = written-length file start body inside
+  same_length = written_length file start body inside
 
   -- its contents
   same_reads : read_file after ≡ done table
   same_reads =
-      let told = file-told file reads in
-      file-done after (contents_same file after told.contents (written-before file start body inside 0 table.size (omega arith)))
+      let told = file_told file reads in
+      file_done after (contents_same file after told.contents (written_before file start body inside 0 table.size (omega arith)))
       (ap (λ (k : ℕ). (k - table.size) % size) same_length ∙ told.whole)
 
   -- and the count of its records
@@ -100,29 +100,29 @@ module _ (file : List ℕ) (r : ℕ) (body : List ℕ) (table : Table) (reads : 
   same_count = ap (λ (k : ℕ). (k - table.size) / size) same_length
 
   -- a record's part of each
-  part-of : (bytes : List ℕ) (s : ℕ) → read_file bytes ≡ done table → s < record_count table bytes
+  part_of_lem : (bytes : List ℕ) (s : ℕ) → read_file bytes ≡ done table → s < record_count table bytes
       → shown_part bytes s ≡ take size (drop (table.size + s * size) bytes)
   unfolding part_of
-  part-of bytes s q l = ap (part_of bytes) (shown-there bytes s q l)
+  part_of_lem bytes s q l = ap (part_of bytes) (shown_there bytes s q l)
 
   -- record r is the body
-  own-part : shown_part after r ≡ body
-  own-part =
-      part-of after r same_reads (omega (arith, same_count))
+  own_part : shown_part after r ≡ body
+  own_part =
+      part_of_lem after r same_reads (omega (arith, same_count))
       ∙ ap (λ (k : ℕ). take k (drop start after)) (sym long)
-      ∙ written-there file start body inside
+      ∙ written_there file start body inside
 
   -- another record stands before it or behind it, and stays
   other_part : (s : ℕ) → s < record_count table file → (s ≡ r → ⊥) → shown_part after s ≡ shown_part file s
   other_part s l n =
-      part-of after s same_reads (omega (arith, same_count))
+      part_of_lem after s same_reads (omega (arith, same_count))
       ∙ go (ltb s r) refl
-      ∙ sym (part-of file s reads l)
+      ∙ sym (part_of_lem file s reads l)
     where
       go : (t : Bool) → ltb s r ≡ t → take size (drop (table.size + s * size) after) ≡ take size (drop (table.size + s * size) file)
       go true e =
           let least : suc s * size ≤ r * size = mul-le-mul_right size (ltb-true s r e) in
-          written-before file start body inside (table.size + s * size) size (omega (arith, suc-mul s size))
+          written_before file start body inside (table.size + s * size) size (omega (arith, suc-mul s size))
       go false e =
           let above : r ≤ s = ltb-false s r e in
           let least : suc r * size ≤ s * size = mul-le-mul_right size (omega arith) in
@@ -140,6 +140,6 @@ replacing file r body {table} reads h long =
       length_same = same_length file r body table reads h long;
       reads_after = same_reads file r body table reads h long;
       counted = same_count file r body table reads h long;
-      part = own-part file r body table reads h long;
+      part = own_part file r body table reads h long;
       unchanged = other_part file r body table reads h long;
     }

@@ -18,15 +18,15 @@ use Rattle.codec.specs.Alpha.{blank_byte, digit_bytes}
 use Rattle.codec.specs.Walking.{line_end}
 use Rattle.records.specs.Writing.{without_zeros, decimal_text}
 use Rattle.records.specs.Listing.{columns_word, records_word, refused_word, count_line, refusal_line, max_file, printed_of}
-use Rattle.records.proofs.WritingLaws.{kept-length, next-bytes, next-byte, decimal_few}
+use Rattle.records.proofs.WritingLaws.{kept_length, next_bytes, next_byte, decimal_few}
 
 -- The line of a count.
 
 module _ (word : List ℕ) (n : ℕ) where
   -- the word, the count's digits and 0A
-  pub count-line-length : length (count_line word n) ≡ suc (length word + length (decimal_text n))
+  pub count_line_length : length (count_line word n) ≡ suc (length word + length (decimal_text n))
   unfolding count_line
-  count-line-length =
+  count_line_length =
       omega (arith, length-append word (decimal_text n ++ (line_end ∷ [])), length-append (decimal_text n) (line_end ∷ []))
 
   -- the three written, one behind the other
@@ -36,39 +36,39 @@ module _ (word : List ℕ) (n : ℕ) where
       (one : first ≡ written b start word) where
     -- the buffer keeps its length
     word-length : length first ≡ length b
-    word-length = kept-length b start word one refl (omega (arith, count-line-length))
+    word-length = kept_length b start word one refl (omega (arith, count_line_length))
 
     -- there is room for the digits
     pub count-digits-room : start + length word + length (decimal_text n) ≤ length first
-    count-digits-room = omega (arith, count-line-length, word-length)
+    count-digits-room = omega (arith, count_line_length, word-length)
 
     module _ {second : List ℕ} (two : second ≡ written first (start + length word) (decimal_text n)) where
       -- the buffer keeps its length
       count-length : length second ≡ length b
-      count-length = kept-length first (start + length word) (decimal_text n) two refl count-digits-room ∙ word-length
+      count-length = kept_length first (start + length word) (decimal_text n) two refl count-digits-room ∙ word-length
 
       module _ {end : ℕ} (ends : end ≡ start + length word + length (decimal_text n)) where
         -- there is room for 0A
         pub count-end-room : end < length second
-        count-end-room = omega (arith, count-line-length, count-length)
+        count-end-room = omega (arith, count_line_length, count-length)
 
         -- and the line is written
         pub count-written : set second end line_end ≡ written b start (count_line word n)
         unfolding count_line
         count-written =
             let text = decimal_text n in
-            let size = count-line-length in
-            let both = two ∙ next-bytes b start word one refl text (omega arith) in
-            next-byte b start (word ++ text) both (omega (arith, length-append word text)) line_end (omega arith)
+            let size = count_line_length in
+            let both = two ∙ next_bytes b start word one refl text (omega arith) in
+            next_byte b start (word ++ text) both (omega (arith, length-append word text)) line_end (omega arith)
             ∙ ap (written b start) (append_assoc word text (line_end ∷ []))
 
 -- The line of a refusal.
 
 module _ (number place : ℕ) where
   -- the word, the digits of both, a blank between them and 0A
-  pub refusal-length : length (refusal_line number place) ≡ length refused_word + length (decimal_text number) + length (decimal_text place) + 2
+  pub refusal_length : length (refusal_line number place) ≡ length refused_word + length (decimal_text number) + length (decimal_text place) + 2
   unfolding refusal_line
-  refusal-length =
+  refusal_length =
       let text = decimal_text place ++ (line_end ∷ []) in
       omega (
         arith,
@@ -77,14 +77,14 @@ module _ (number place : ℕ) where
       )
 
   -- at most 64 bytes
-  pub refusal-few : length (refusal_line number place) ≤ 64
-  refusal-few = omega (arith, refusal-length, decimal_few number, decimal_few place)
+  pub refusal_few : length (refusal_line number place) ≤ 64
+  refusal_few = omega (arith, refusal_length, decimal_few number, decimal_few place)
 
   -- the parts put together one behind the other
-  refusal-parts :
+  refusal_parts :
       (((refused_word ++ decimal_text number) ++ (blank_byte ∷ [])) ++ decimal_text place) ++ (line_end ∷ []) ≡ refusal_line number place
   unfolding refusal_line
-  refusal-parts =
+  refusal_parts =
       let front = refused_word ++ decimal_text number in
       let last = line_end ∷ [] in
       append_assoc (front ++ (blank_byte ∷ [])) (decimal_text place) last
@@ -106,7 +106,7 @@ module _ (number place : ℕ) where
     -- are written first
     front-written : second ≡ written b 0 front
     unfolding front
-    front-written = two ∙ next-bytes b 0 refused_word one refl (decimal_text number) (omega arith)
+    front-written = two ∙ next_bytes b 0 refused_word one refl (decimal_text number) (omega arith)
 
     front_length : 8 + n ≡ 0 + length front
     unfolding front
@@ -114,19 +114,19 @@ module _ (number place : ℕ) where
 
     -- then the blank
     blank-written : set second (8 + n) blank_byte ≡ written b 0 (front ++ (blank_byte ∷ []))
-    blank-written = next-byte b 0 front front-written front_length blank_byte (omega arith)
+    blank-written = next_byte b 0 front front-written front_length blank_byte (omega arith)
 
     blank-length : 8 + n + 1 ≡ 0 + length (front ++ (blank_byte ∷ []))
     blank-length = omega (arith, front_length, length-append front (blank_byte ∷ []))
 
     -- there is room for the place
     pub refusal-place-room : 8 + n + 1 + length (decimal_text place) ≤ length (set second (8 + n) blank_byte)
-    refusal-place-room = omega (arith, kept-length b 0 (front ++ (blank_byte ∷ [])) blank-written blank-length (omega arith))
+    refusal-place-room = omega (arith, kept_length b 0 (front ++ (blank_byte ∷ [])) blank-written blank-length (omega arith))
 
     module _ {fourth : List ℕ} (four : fourth ≡ written (set second (8 + n) blank_byte) (8 + n + 1) (decimal_text place)) where
       -- then the place is written
       place-written : fourth ≡ written b 0 (front ++ (blank_byte ∷ []) ++ decimal_text place)
-      place-written = four ∙ next-bytes b 0 (front ++ (blank_byte ∷ [])) blank-written blank-length (decimal_text place) (omega arith)
+      place-written = four ∙ next_bytes b 0 (front ++ (blank_byte ∷ [])) blank-written blank-length (decimal_text place) (omega arith)
 
       place-length : 8 + n + 1 + p ≡ 0 + length (front ++ (blank_byte ∷ []) ++ decimal_text place)
       place-length = omega (arith, blank-length, length-append (front ++ (blank_byte ∷ [])) (decimal_text place))
@@ -134,14 +134,14 @@ module _ (number place : ℕ) where
       -- there is room for 0A
       pub refusal-end-room : 8 + n + 1 + p < length fourth
       refusal-end-room =
-          omega (arith, kept-length b 0 (front ++ (blank_byte ∷ []) ++ decimal_text place) place-written place-length (omega arith))
+          omega (arith, kept_length b 0 (front ++ (blank_byte ∷ []) ++ decimal_text place) place-written place-length (omega arith))
 
       -- and the line is written
       pub refusal-written : set fourth (8 + n + 1 + p) line_end ≡ written b 0 (refusal_line number place)
       unfolding front
       refusal-written =
-          next-byte b 0 (front ++ (blank_byte ∷ []) ++ decimal_text place) place-written place-length line_end room
-          ∙ ap (written b 0) refusal-parts
+          next_byte b 0 (front ++ (blank_byte ∷ []) ++ decimal_text place) place-written place-length line_end room
+          ∙ ap (written b 0) refusal_parts
 
 -- document 01's lines
 pub record KnownLines : Type 0 where
@@ -167,22 +167,22 @@ module _ (room : ℕ) (bytes : List ℕ) where
   within_none h = ap (λ (t : Bool). pick t (refused 6 0) (done bytes)) (lt-ltb room (length bytes) h)
 
   -- others are given
-  pub within-some : length bytes ≤ room → within room bytes ≡ done bytes
+  pub within_some : length bytes ≤ room → within room bytes ≡ done bytes
   unfolding within
-  within-some h = ap (λ (t : Bool). pick t (refused 6 0) (done bytes)) (le-ltb room (length bytes) h)
+  within_some h = ap (λ (t : Bool). pick t (refused 6 0) (done bytes)) (le-ltb room (length bytes) h)
 
 -- What the program prints of its answer.
 
 module _ (a : Answer (List ℕ)) where
   -- a refusal's line
-  pub printed-refused : {number place : ℕ} → a ≡ refused number place → printed_of a ≡ refusal_line number place
+  pub printed_refused : {number place : ℕ} → a ≡ refused number place → printed_of a ≡ refusal_line number place
   unfolding printed_of
-  printed-refused h = ap printed_of h
+  printed_refused h = ap printed_of h
 
   -- else the bytes
-  pub printed-done : {bytes : List ℕ} → a ≡ done bytes → printed_of a ≡ bytes
+  pub printed_done : {bytes : List ℕ} → a ≡ done bytes → printed_of a ≡ bytes
   unfolding printed_of
-  printed-done h = ap printed_of h
+  printed_done h = ap printed_of h
 
   module _ (size : ℕ) where
     -- of an input that is too long, the line of its refusal
@@ -195,9 +195,9 @@ module _ (a : Answer (List ℕ)) where
     printed-short h = ap (λ (t : Bool). printed_of (pick t (refused 11 0) a)) (le-ltb max_file size h)
 
   -- bytes into a buffer with so much room: as the call that gives them
-  pub printed-within : (room : ℕ) {bytes : List ℕ} → a ≡ done bytes → (a then within room) ≡ within room (printed_of a)
+  pub printed_within : (room : ℕ) {bytes : List ℕ} → a ≡ done bytes → (a then within room) ≡ within room (printed_of a)
   unfolding printed_of ◌then◌
-  printed-within room h =
+  printed_within room h =
       ap (λ (x : Answer (List ℕ)). x then within room) h ∙ ap (λ (x : Answer (List ℕ)). within room (printed_of x)) (sym h)
 
 -- a limit of 64 bytes or more that the bytes keep to is kept
@@ -205,7 +205,7 @@ pub printed_few :
     (most : ℕ) → 64 ≤ most → (a : Answer (List ℕ)) → ((bytes : List ℕ) → a ≡ done bytes → length bytes ≤ most) → length (printed_of a) ≤ most
 unfolding printed_of
 printed_few most h (done bytes) few = few bytes refl
-printed_few most h (refused number place) few = omega (arith, refusal-few number place)
+printed_few most h (refused number place) few = omega (arith, refusal_few number place)
 
 -- a call that passes on what another answers, where both are to answer alike
 pub passed_on :
@@ -220,8 +220,8 @@ passed_on e buffer (answer, bytes) = (answer ∙ ap sized e, bytes ∙ ap (λ (x
 
 module _ (lines size others room : ℕ) (some : 0 < size) (fits : others ≤ room) where
   -- they and the others are longer than the room where fewer lines fit behind the others
-  pub longer-test : ltb ((room - others) / size) lines ≡ ltb room (others + lines * size)
-  longer-test =
+  pub longer_test : ltb ((room - others) / size) lines ≡ ltb room (others + lines * size)
+  longer_test =
       ⊎_elim
       (λ h. le-ltb ((room - others) / size) lines ((le-div_iff_mul-le some).1 (omega arith)) ∙ sym (le-ltb room (others + lines * size) h))
       (λ h. lt-ltb ((room - others) / size) lines ((div-lt_iff_lt-mul some).1 (omega arith)) ∙ sym (lt-ltb room (others + lines * size) h))

@@ -188,46 +188,46 @@ kept_starts bytes =
 module _ {bytes : List ℕ} {read : ℕ} {s t : State} {longest integer fraction : ℕ} {exponential : Bool}
     (k : Kept bytes read s longest integer fraction exponential) (h : read < length bytes) (e : t ≡ next_state s (get_or bytes read 0)) where
   -- the next state
-  next-comes : t ≡ run_state Start (take (suc read) bytes)
-  next-comes = e ∙ ap (λ (x : State). next_state x (get_or bytes read 0)) k.comes ∙ sym (run_more Start bytes read h)
+  next_comes : t ≡ run_state Start (take (suc read) bytes)
+  next_comes = e ∙ ap (λ (x : State). next_state x (get_or bytes read 0)) k.comes ∙ sym (run_more Start bytes read h)
 
   -- the next counts
-  next-integers : integers_from Start (take (suc read) bytes) ≡ integer + counted (integer_hash t) 0
-  next-integers =
+  next_integers : integers_from Start (take (suc read) bytes) ≡ integer + counted (integer_hash t) 0
+  next_integers =
       integers_more Start bytes read h
-      ∙ ap (λ (x : State). integers_from Start (take read bytes) + counted (integer_hash x) 0) (sym next-comes)
+      ∙ ap (λ (x : State). integers_from Start (take read bytes) + counted (integer_hash x) 0) (sym next_comes)
       ∙ ap (λ (n : ℕ). n + counted (integer_hash t) 0) (sym k.integers)
 
-  next-fractions : fractions_from Start (take (suc read) bytes) ≡ fraction + counted (fraction_hash t) 0
-  next-fractions =
+  next_fractions : fractions_from Start (take (suc read) bytes) ≡ fraction + counted (fraction_hash t) 0
+  next_fractions =
       fractions_more Start bytes read h
-      ∙ ap (λ (x : State). fractions_from Start (take read bytes) + counted (fraction_hash x) 0) (sym next-comes)
+      ∙ ap (λ (x : State). fractions_from Start (take read bytes) + counted (fraction_hash x) 0) (sym next_comes)
       ∙ ap (λ (n : ℕ). n + counted (fraction_hash t) 0) (sym k.fractions)
 
   -- a field ends here
   kept_field : {i f : ℕ} {x : Bool} → i ≡ counted (integer_hash t) 0 → f ≡ counted (fraction_hash t) 0 → x ≡ is_exponential t
       → Kept bytes (suc read) t (suc read) (integer + i) (fraction + f) x
   kept_field {i} {f} {x} p q z =
-      let many : integer + i ≡ integers_from Start (take (suc read) bytes) = omega (arith, next-integers) in
-      let rest : fraction + f ≡ fractions_from Start (take (suc read) bytes) = omega (arith, next-fractions) in
+      let many : integer + i ≡ integers_from Start (take (suc read) bytes) = omega (arith, next_integers) in
+      let rest : fraction + f ≡ fractions_from Start (take (suc read) bytes) = omega (arith, next_fractions) in
       record {
         few = omega (arith, hash_once t p q, k.few);
-        comes = next-comes;
+        comes = next_comes;
         integers = many;
         fractions = rest;
         own_integers = many;
         own_fractions = rest;
-        kind = z ∙ ap is_exponential next-comes;
+        kind = z ∙ ap is_exponential next_comes;
       }
 
   -- none does
-  kept-none : is_field_state t ≡ false → Kept bytes (suc read) t longest integer fraction exponential
-  kept-none z =
+  kept_none : is_field_state t ≡ false → Kept bytes (suc read) t longest integer fraction exponential
+  kept_none z =
       record {
         few = omega (arith, k.few);
-        comes = next-comes;
-        integers = omega (arith, next-integers, (hash_field t z).0);
-        fractions = omega (arith, next-fractions, (hash_field t z).1);
+        comes = next_comes;
+        integers = omega (arith, next_integers, (hash_field t z).0);
+        fractions = omega (arith, next_fractions, (hash_field t z).1);
         own_integers = k.own_integers;
         own_fractions = k.own_fractions;
         kind = k.kind;
@@ -262,20 +262,20 @@ module _ {line : List ℕ} {start : ℕ} {s t : State} {longest integer fraction
   one_more = omega (arith, r.searching.behind)
 
   -- where a field ends here
-  pub scanning-field : {i f : ℕ} {x : Bool} → is_field_state t ≡ true → i ≡ counted (integer_hash t) 0 → f ≡ counted (fraction_hash t) 0
+  pub scanning_field : {i f : ℕ} {x : Bool} → is_field_state t ≡ true → i ≡ counted (integer_hash t) 0 → f ≡ counted (fraction_hash t) 0
       → x ≡ is_exponential t → Scanning line start (end + 1 - start) (integer + i) (fraction + f) x t (end + 1)
-  scanning-field w p q z =
+  scanning_field w p q z =
       record {
         searching = searching_field r.searching h e w;
         kept = rw one_more at (kept_field r.kept more_bytes same_byte p q z);
       }
 
   -- where none does
-  pub scanning-none : is_field_state t ≡ false → Scanning line start longest integer fraction exponential t (end + 1)
-  scanning-none w =
+  pub scanning_none : is_field_state t ≡ false → Scanning line start longest integer fraction exponential t (end + 1)
+  scanning_none w =
       record {
         searching = searching_none r.searching h e w;
-        kept = rw one_more at (kept-none r.kept more_bytes same_byte w);
+        kept = rw one_more at (kept_none r.kept more_bytes same_byte w);
       }
 
 -- the longest field so far is the field

@@ -15,7 +15,7 @@ use Rattle.decimal.specs.Answer.{Answer, done, refused, ◌then◌, pick}
 use Rattle.decimal.specs.Number.{normal}
 use Rattle.decimal.specs.Image.{hashes, scanned_image}
 use Rattle.decimal.specs.Truncation.{Truncated, truncation, Fit}
-use Rattle.decimal.proofs.TruncationLaws.{fit-truncation, truncation-fit}
+use Rattle.decimal.proofs.TruncationLaws.{fit_truncation, truncation_fit}
 use Rattle.decimal.proofs.AnswerLaws.{never_done, then_done, then_last}
 use Rattle.records.specs.declared.fields.Element.{Element}
 use Rattle.records.specs.declared.fields.Element.TheVariants as element
@@ -41,45 +41,45 @@ field_some ready = omega (arith, ready.is_field.nonempty, ap hashes (field_image
 
 module _ (field : List ℕ) (n : Number) where
   -- a number that is spilled is not truncated
-  spilled-refused : is_spilled field (element.Number n) ≡ true → (t : Truncated) → truncation 0 (scanned_image field) n ≡ done t → ⊥
+  spilled_refused : is_spilled field (element.Number n) ≡ true → (t : Truncated) → truncation 0 (scanned_image field) n ≡ done t → ⊥
   unfolding is_spilled
-  spilled-refused h t e =
-      let w : ◌≡◌ {A = Bool} true false = sym h ∙ (truncation-fit 0 (scanned_image field) n e).within in
+  spilled_refused h t e =
+      let w : ◌≡◌ {A = Bool} true false = sym h ∙ (truncation_fit 0 (scanned_image field) n e).within in
       let z : ◌≡◌ {A = ℕ} 0 1 = cc in
       omega arith
 
   -- it prints the field's own bytes
-  spilled-number : is_spilled field (element.Number n) ≡ true → or_field field (number_in field n) ≡ field
-  spilled-number h = go (truncation 0 (scanned_image field) n) refl
+  spilled_number : is_spilled field (element.Number n) ≡ true → or_field field (number_in field n) ≡ field
+  spilled_number h = go (truncation 0 (scanned_image field) n) refl
     where
       go : (a : Answer Truncated) → truncation 0 (scanned_image field) n ≡ a → or_field field (number_in field n) ≡ field
-      go (done t) e = absurd (spilled-refused h t e)
+      go (done t) e = absurd (spilled_refused h t e)
       go (refused number place) e = number_refused document_marks field n e
 
   -- and counts once
-  spilled-once : is_spilled field (element.Number n) ≡ true → spilled_by (number_in field n) ≡ 1
+  spilled_once : is_spilled field (element.Number n) ≡ true → spilled_by (number_in field n) ≡ 1
   unfolding number_marked spilled_by ◌then◌
-  spilled-once h = go (truncation 0 (scanned_image field) n) refl
+  spilled_once h = go (truncation 0 (scanned_image field) n) refl
     where
       go : (a : Answer Truncated) → truncation 0 (scanned_image field) n ≡ a
           → spilled_by (a then λ t. done (shown_in field (scanned_image field) t)) ≡ 1
-      go (done t) e = absurd (spilled-refused h t e)
+      go (done t) e = absurd (spilled_refused h t e)
       go (refused number place) e = refl
 
   -- a number in normal form that is not spilled does not count
-  shown-not : FieldReady field → normal n ≡ true → is_spilled field (element.Number n) ≡ false → spilled_by (number_in field n) ≡ 0
+  shown_not : FieldReady field → normal n ≡ true → is_spilled field (element.Number n) ≡ false → spilled_by (number_in field n) ≡ 0
   unfolding is_spilled number_marked spilled_by ◌then◌
-  shown-not ready plain h =
+  shown_not ready plain h =
       let fit : Fit (scanned_image field) n =
       record { nonempty = field_some ready; size = ready.fits; number_checked = plain; within = h } in
       ap
       (λ (a : Answer Truncated). spilled_by (a then λ t. done (shown_in field (scanned_image field) t)))
-      (fit-truncation 0 (scanned_image field) n fit)
+      (fit_truncation 0 (scanned_image field) n fit)
 
 -- Published: a spilled element prints the field's own bytes.
 pub spilled_own : (texts field : List ℕ) (e : Element) → is_spilled field e ≡ true → element_bytes texts field e ≡ field
 unfolding element_bytes is_spilled
-spilled_own texts field (element.Number n) h = spilled-number field n h
+spilled_own texts field (element.Number n) h = spilled_number field n h
 spilled_own texts field (element.Text start size) h = let z : ◌≡◌ {A = ℕ} 0 1 = cc in absurd (omega arith)
 
 -- what the definition of print counts for an element is 1 exactly where it is spilled
@@ -89,8 +89,8 @@ unfolding element_spills is_spilled
 element_counted {field} ready room index (element.Number n) h = go (is_spilled field (element.Number n)) refl
   where
     go : (b : Bool) → is_spilled field (element.Number n) ≡ b → spilled_by (number_in field n) ≡ pick b 1 0
-    go true e = spilled-once field n e
-    go false e = shown-not field n ready (number_normal room index n h) e
+    go true e = spilled_once field n e
+    go false e = shown_not field n ready (number_normal room index n h) e
 element_counted ready room index (element.Text start size) h = refl
 
 -- The fields that the elements fill.
@@ -131,21 +131,21 @@ module _ (texts line : List ℕ) (checked : check_fields 0 0 line ≡ done tt) (
       (k : ℕ) → Reached line k → (print_from texts line (drop k line) es).spilled ≡ spilled_among (fields_filled line (drop k line) es) es
 
   -- an element in the first field of a part of the line, and those behind it
-  one-counted : (room index : ℕ) (e : Element) (es : List Element) → check_element room index e ≡ done tt → Counted es → {left : List ℕ}
+  one_counted : (room index : ℕ) (e : Element) (es : List Element) → check_element room index e ≡ done tt → Counted es → {left : List ℕ}
       → Found line left
       → (one_field texts left e (print_from texts line (behind_field left) es)).spilled
       ≡ spilled_among (first_field left ∷ fields_filled line (behind_field left) es) (e ∷ es)
   unfolding one_field and_then spilled_among
-  one-counted room index e es h rest {left} f =
+  one_counted room index e es h rest {left} f =
       ap₂ ◌+◌ (element_counted f.ready room index e h)
       (ap (λ (l : List ℕ). (print_from texts line l es).spilled) f.behind
       ∙ rest f.place f.reached
       ∙ ap (λ (l : List ℕ). spilled_among (fields_filled line l es) es) (sym f.behind))
 
   -- one element more
-  next-counted : (room index : ℕ) (e : Element) (es : List Element) → check_element room index e ≡ done tt → Counted es → Counted (e ∷ es)
+  next_counted : (room index : ℕ) (e : Element) (es : List Element) → check_element room index e ≡ done tt → Counted es → Counted (e ∷ es)
   unfolding print_from and_then fields_filled next_part
-  next-counted room index e es h rest k r = go (has_field (drop k line)) refl
+  next_counted room index e es h rest k r = go (has_field (drop k line)) refl
     where
       go : (b : Bool) → has_field (drop k line) ≡ b
           → (pick b
@@ -154,16 +154,16 @@ module _ (texts line : List ℕ) (checked : check_fields 0 0 line ≡ done tt) (
           ≡ spilled_among
           (first_field (pick b (drop k line) line) ∷ fields_filled line (behind_field (pick b (drop k line) line)) es)
           (e ∷ es)
-      go true t = one-counted room index e es h rest (found line checked r (has_field_lem (drop k line) t))
-      go false t = zero-add _ ∙ one-counted room index e es h rest (found line {k = 0} checked at_start some)
+      go true t = one_counted room index e es h rest (found line checked r (has_field_lem (drop k line) t))
+      go false t = zero-add _ ∙ one_counted room index e es h rest (found line {k = 0} checked at_start some)
 
   -- all elements
-  all-counted : (room index : ℕ) (es : List Element) → check_elements room index es ≡ done tt → Counted es
+  all_counted : (room index : ℕ) (es : List Element) → check_elements room index es ≡ done tt → Counted es
   unfolding check_elements print_from spilled_among
-  all-counted room index [] h = λ k r. refl
-  all-counted room index (e ∷ es) h =
+  all_counted room index [] h = λ k r. refl
+  all_counted room index (e ∷ es) h =
       let both = then_last (check_element room index e) (check_elements room (suc index) es) h in
-      next-counted room index e es both.0 (all-counted room (suc index) es both.1)
+      next_counted room index e es both.0 (all_counted room (suc index) es both.1)
 
 -- The line.
 
@@ -173,7 +173,7 @@ from_counted : (texts line : List ℕ) (es : List Element) → check_fields 0 0 
 unfolding print_from spilled_elements spilled_among
 from_counted texts line [] checked some h = refl
 from_counted texts line (e ∷ es) checked some h =
-    all-counted texts line checked (some_done line (e ∷ es) some (omega arith)) (length texts) 0 (e ∷ es) h 0 at_start
+    all_counted texts line checked (some_done line (e ∷ es) some (omega arith)) (length texts) 0 (e ∷ es) h 0 at_start
 
 -- Published: of every line that is printed, the spilled count equals the number of elements that the print rule calls spilled.
 pub spilled_count : (line : List ℕ) (es : List Element) (texts : List ℕ) {p : Print} → printed line es texts ≡ done p

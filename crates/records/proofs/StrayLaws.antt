@@ -30,46 +30,46 @@ record Foreign (x : ℕ) : Type 0 where
 
 module _ {x : ℕ} (f : Foreign x) where
   -- it is no digit
-  none-digits : (ds : List ℕ) → byte_count x (digit_bytes ds) ≡ 0
+  none_digits : (ds : List ℕ) → byte_count x (digit_bytes ds) ≡ 0
   unfolding byte_count digit_bytes
-  none-digits [] = refl
-  none-digits (d ∷ ds) = let low = f.below in rw (ne_eqb (zero_byte + d) x (λ e. omega arith)) (none-digits ds)
+  none_digits [] = refl
+  none_digits (d ∷ ds) = let low = f.below in rw (ne_eqb (zero_byte + d) x (λ e. omega arith)) (none_digits ds)
 
   -- no sign
-  none-sign : (s : Sign) → byte_count x (sign_bytes s) ≡ 0
+  none_sign : (s : Sign) → byte_count x (sign_bytes s) ≡ 0
   unfolding byte_count sign_bytes
-  none-sign Unsigned = refl
-  none-sign Plus = rw (ne_eqb plus_byte x (λ e. f.no_plus (sym e)))
-  none-sign Minus = rw (ne_eqb minus_byte x (λ e. f.no_minus (sym e)))
+  none_sign Unsigned = refl
+  none_sign Plus = rw (ne_eqb plus_byte x (λ e. f.no_plus (sym e)))
+  none_sign Minus = rw (ne_eqb minus_byte x (λ e. f.no_minus (sym e)))
 
   -- no blank
-  none-blanks : (n : ℕ) → byte_count x (times n blank_byte) ≡ 0
+  none_blanks : (n : ℕ) → byte_count x (times n blank_byte) ≡ 0
   unfolding byte_count times
-  none-blanks zero = refl
-  none-blanks (suc n) = rw (ne_eqb blank_byte x (λ e. f.no_blank (sym e))) (none-blanks n)
+  none_blanks zero = refl
+  none_blanks (suc n) = rw (ne_eqb blank_byte x (λ e. f.no_blank (sym e))) (none_blanks n)
 
   -- no point
-  none-point : (p : PointPart) → byte_count x (point_bytes p) ≡ 0
+  none_point : (p : PointPart) → byte_count x (point_bytes p) ≡ 0
   unfolding byte_count point_bytes
-  none-point no_point = refl
-  none-point (point ds) = rw (ne_eqb point_byte x (λ e. f.no_point_lem (sym e))) (none-digits ds)
+  none_point no_point = refl
+  none_point (point ds) = rw (ne_eqb point_byte x (λ e. f.no_point_lem (sym e))) (none_digits ds)
 
   -- no part of an exponent
-  none-power : (p : ExponentPart) → byte_count x (power_bytes p) ≡ 0
+  none_power : (p : ExponentPart) → byte_count x (power_bytes p) ≡ 0
   unfolding byte_count power_bytes
-  none-power no_exponent = refl
-  none-power (exponent s ds) =
+  none_power no_exponent = refl
+  none_power (exponent s ds) =
       let low = f.below in
-      let sum : byte_count x (sign_bytes s ++ digit_bytes ds) ≡ 0 = omega (arith, count_append x (sign_bytes s) (digit_bytes ds), none-sign s, none-digits ds) in
+      let sum : byte_count x (sign_bytes s ++ digit_bytes ds) ≡ 0 = omega (arith, count_append x (sign_bytes s) (digit_bytes ds), none_sign s, none_digits ds) in
       rw (ne_eqb exponent_byte x (λ e. omega arith)) sum
 
   -- so that it stands in no text
-  none-text : (t : TextParts) → byte_count x (text_bytes t) ≡ 0
+  none_text : (t : TextParts) → byte_count x (text_bytes t) ≡ 0
   unfolding text_bytes numeral_bytes
-  none-text t =
+  none_text t =
       let u = t.numeral in
       simp (count_append x)
-      (omega (arith, none-blanks t.before, none-sign t.sign, none-digits u.integer, none-point u.fraction, none-power u.power, none-blanks t.behind))
+      (omega (arith, none_blanks t.before, none_sign t.sign, none_digits u.integer, none_point u.fraction, none_power u.power, none_blanks t.behind))
 
 -- a byte that is kept stands among those that are left
 count_more : (x b : ℕ) (bs : List ℕ) → byte_count x bs ≤ byte_count x (b ∷ bs)
@@ -105,7 +105,7 @@ unfolding read_marked
 foreign_refused m field j {b} inside is kept foreign =
     let some = kept_counts m field j inside is kept in
     converts_none (without_marks m field)
-    (λ t form. omega (arith, some, ap (byte_count (read_byte m b)) form.written, none-text foreign t))
+    (λ t form. omega (arith, some, ap (byte_count (read_byte m b)) form.written, none_text foreign t))
 
 -- a byte is no mark
 pub record NoMark (m : Marks) (b : ℕ) : Type 0 where

@@ -9,7 +9,7 @@ use Rattle.decimal.specs.declared.image.Image.{Image}
 use Rattle.decimal.specs.declared.number.Number.{Number}
 use Rattle.decimal.specs.Answer.{Answer, done, ◌then◌}
 use Rattle.codec.specs.Text.{read_text, read_texts}
-use Rattle.codec.proofs.ReadingTheorem.{whole-text, texts_whole}
+use Rattle.codec.proofs.ReadingTheorem.{whole_text, texts_whole}
 use Rattle.records.specs.declared.marks.Marks.{Marks}
 use Rattle.records.specs.Marks.{without_marks}
 use Rattle.records.specs.Fields.{read_marked}
@@ -22,7 +22,7 @@ use Rattle.records.specs.WholeRead.{field_texts, UsesWhole}
 pub field_whole : (m : Marks) (field : List ℕ) (n : Number)
     → (read_marked m field ≡ done n) ↔ (read_text (without_marks m field) ≡ done (record { number = n; used = length (without_marks m field) }))
 unfolding read_marked
-field_whole m field n = (whole-text (without_marks m field)).number n
+field_whole m field n = (whole_text (without_marks m field)).number n
 
 -- reading fields back is reading their texts back
 fields_texts : (ps : List Print) → read_fields ps ≡ read_texts (field_texts ps)

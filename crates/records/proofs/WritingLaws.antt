@@ -19,7 +19,7 @@ use Rattle.decimal.proofs.DigitLaws.{le_or_lt, digits_length, digits_last, digit
 use Rattle.decimal.proofs.DigitLaws.{value_of_digits, value_below, digits_of_value}
 use Rattle.codec.specs.Answers.{stored_in, written}
 use Rattle.codec.specs.Alpha.{zero_byte, digit_bytes}
-use Rattle.codec.proofs.BufferLaws.{written-length, written_next}
+use Rattle.codec.proofs.BufferLaws.{written_length, written_next}
 use Rattle.codec.proofs.AlphaLaws.{digit_bytes_length}
 use Rattle.records.specs.Writing.{whole_digits, without_zeros, decimal_text}
 
@@ -58,18 +58,18 @@ module _
     (so_far : now ≡ written b start s)
     (behind : place ≡ start + length s) where
   -- the buffer keeps its length
-  pub kept-length : place ≤ length b → length now ≡ length b
-  kept-length h = ap length so_far ∙ written-length b start s (omega arith)
+  pub kept_length : place ≤ length b → length now ≡ length b
+  kept_length h = ap length so_far ∙ written_length b start s (omega arith)
 
   -- the bytes behind those that stand
-  pub next-bytes : (t : List ℕ) → place + length t ≤ length b → written now place t ≡ written b start (s ++ t)
-  next-bytes t room =
+  pub next_bytes : (t : List ℕ) → place + length t ≤ length b → written now place t ≡ written b start (s ++ t)
+  next_bytes t room =
       ap₂ (λ (l : List ℕ) (k : ℕ). written l k t) so_far behind ∙ written_next b start s t (omega arith)
 
   -- one byte behind them
-  pub next-byte : (byte : ℕ) → place < length b → set now place byte ≡ written b start (s ++ (byte ∷ []))
-  next-byte byte room =
-      written_byte now place byte (omega (arith, kept-length (omega arith))) ∙ next-bytes (byte ∷ []) (omega arith)
+  pub next_byte : (byte : ℕ) → place < length b → set now place byte ≡ written b start (s ++ (byte ∷ []))
+  next_byte byte room =
+      written_byte now place byte (omega (arith, kept_length (omega arith))) ∙ next_bytes (byte ∷ []) (omega arith)
 
 -- Bytes written into a part of a buffer that is lent.
 
@@ -308,33 +308,33 @@ count_starts value = record { others = zero; counted = refl; few = omega arith; 
 
 module _ (value count rest : ℕ) (below : value < 10 ^ whole_digits) (c : Counted value count rest) where
   -- what is left begins with another
-  count-filled : 0 < rest → 10 ^ count ≤ value
-  count-filled more =
+  count_filled : 0 < rest → 10 ^ count ≤ value
+  count_filled more =
       let some : 1 ≤ value / 10 ^ suc c.others = omega (arith, c.left) in
       let low = (le-div_iff_mul-le (pow10_pos (suc c.others))).0 some in
       omega (arith, ap (λ (k : ℕ). 10 ^ k) c.counted)
 
   -- so that fewer than 20 are counted
-  pub count-few : 0 < rest → count < whole_digits
-  count-few more = few_places value count below (count-filled more)
+  pub count_few : 0 < rest → count < whole_digits
+  count_few more = few_places value count below (count_filled more)
 
   -- one digit more is counted
-  pub count-turns : 0 < rest → Counted value (count + 1) (rest / 10)
+  pub count_turns : 0 < rest → Counted value (count + 1) (rest / 10)
   unfolding Fills
-  count-turns more =
+  count_turns more =
       let p : ℕ = 10 ^ suc c.others in
       let next : p * 10 ≡ 10 ^ suc count = mul_comm p 10 ∙ ap (λ (k : ℕ). 10 * 10 ^ k) (sym c.counted) ∙ sym (pow10_suc count) in
       record {
         others = count;
         counted = add-one count;
-        few = count-few more;
-        fills = inr (count-filled more);
+        few = count_few more;
+        fills = inr (count_filled more);
         left = ap (λ (m : ℕ). m / 10) c.left ∙ div-div-eq-div-mul value p 10 ∙ ap (λ (m : ℕ). value / m) next;
       }
 
   -- nothing is left: all are counted
-  pub count-ends : rest ≤ 0 → count ≡ length (decimal_text value)
-  count-ends none =
+  pub count_ends : rest ≤ 0 → count ≡ length (decimal_text value)
+  count_ends none =
       let k = c.others in
       let under : value < 1 * 10 ^ suc k = (div-lt_iff_lt-mul (pow10_pos (suc k))).0 (omega (arith, c.left)) in
       c.counted
@@ -373,24 +373,24 @@ written_last b start s byte k room long =
 
 module _ (b : List ℕ) (start : ℕ) where
   -- all digits are to come
-  pub decimal-start :
+  pub decimal_start :
       (n : ℕ) {count : ℕ}
       → n < 10 ^ whole_digits
       → count ≡ length (decimal_text n)
       → written b start (digit_bytes (digits_of count n)) ≡ written b start (decimal_text n)
-  decimal-start n below e =
+  decimal_start n below e =
       ap (λ (k : ℕ). written b start (digit_bytes (digits_of k n))) e ∙ ap (written b start) (sym (decimal_shown n below))
 
   -- the last of them is written
-  pub decimal-turn :
+  pub decimal_turn :
       (j rest : ℕ)
       → 0 < j
       → start + j ≤ length b
       → written (set b (start + (j - 1)) (zero_byte + rest % 10)) start (digit_bytes (digits_of (j - 1) (rest / 10)))
       ≡ written b start (digit_bytes (digits_of j rest))
   unfolding digit_bytes
-  decimal-turn zero rest more room = absurd (omega arith)
-  decimal-turn (suc j) rest more room =
+  decimal_turn zero rest more room = absurd (omega arith)
+  decimal_turn (suc j) rest more room =
       let ds = digits_of j (rest / 10) in
       let last = zero_byte + rest % 10 in
       let e : suc j - 1 ≡ j = omega arith in
@@ -399,7 +399,7 @@ module _ (b : List ℕ) (start : ℕ) where
       ∙ ap (written b start) (sym (ap digit_bytes (digits_last j rest) ∙ digit_bytes_append ds (rest % 10 ∷ [])))
 
   -- no digit is to come
-  pub decimal-end : (j rest : ℕ) → j ≤ 0 → written b start (digit_bytes (digits_of j rest)) ≡ b
+  pub decimal_end : (j rest : ℕ) → j ≤ 0 → written b start (digit_bytes (digits_of j rest)) ≡ b
   unfolding digit_bytes digits_of
-  decimal-end zero rest none = sym (written_empty b start)
-  decimal-end (suc j) rest none = absurd (omega arith)
+  decimal_end zero rest none = sym (written_empty b start)
+  decimal_end (suc j) rest none = absurd (omega arith)

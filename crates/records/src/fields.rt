@@ -20,14 +20,14 @@ use codec::{NO_NUMBER, WriteAnswer, convert, write_alpha_under};
 use decimal::{CheckAnswer, Image, Number, NumberAnswer, PRECISION, Sign, Truncation, truncate};
 
 // An element of a line: a number, or a text by start and length into lent bytes.
-#[derive(Drop)]
+#[derive(Clone, Copy)]
 pub enum Element {
     Number(Number),
     Text(usize, usize),
 }
 
 // What was filled of a field: whether a digit or the point was shown, and how many digits were used.
-#[derive(Drop)]
+#[derive(Clone, Copy)]
 pub(crate) struct Fill {
     pub shown: bool,
     pub used: usize,

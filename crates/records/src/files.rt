@@ -26,14 +26,14 @@ use decimal::{CheckAnswer, Refusal};
 pub const NO_RECORD: u8 = 12;
 
 // The used length with the record added, or why none was.
-#[derive(Drop)]
+#[derive(Clone, Copy)]
 pub enum AddAnswer {
     Added(usize),
     Refused(Refusal),
 }
 
 // Where a record's body stands: its start and length; or why there is none.
-#[derive(Drop)]
+#[derive(Clone, Copy)]
 pub enum ShowAnswer {
     Shown(usize, usize),
     Refused(Refusal),

@@ -14,7 +14,7 @@ use decimal::{CheckAnswer, Image, PRECISION, Refusal, Sign, TOO_MANY_DIGITS, sig
 pub(crate) const FIELDS: usize = ELEMENTS + 1;
 
 // A field of a line: its start, its length and its image.
-#[derive(Drop)]
+#[derive(Clone, Copy)]
 pub(crate) struct Field {
     pub start: u16,
     pub length: u16,
@@ -34,7 +34,7 @@ const UNUSED: Field = Field {
 };
 
 // The first FIELDS fields of a line and the count of all; or why the line is refused, and then the fields mean nothing.
-#[derive(Drop)]
+#[derive(Clone, Copy)]
 pub(crate) struct Fields {
     pub answer: CheckAnswer,
     pub fields: [Field; FIELDS],

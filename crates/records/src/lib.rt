@@ -1,4 +1,6 @@
 // Layer 3: print lines and record files (document 01: Print lines, Record file).
+#![tactic(auto)]
+
 mod fields;
 mod files;
 mod finding;

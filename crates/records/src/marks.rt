@@ -3,7 +3,7 @@ ghost use Rattle.std.specs.Prelude.{◌≡◌};
 ghost use Rattle.records.specs.Marks.{is_dropped, read_byte};
 
 // The decimal mark, the mark between thousands, and the byte for suppressed zeros and thousands marks.
-#[derive(Drop)]
+#[derive(Clone, Copy)]
 pub(crate) struct Marks {
     pub decimal: u8,
     pub thousands: u8,

@@ -39,7 +39,7 @@ pub const NO_FIELD: u8 = 9;
 pub const TEXT_OUTSIDE: u8 = 13;
 
 // The bytes written and the spilled count, or why nothing was printed.
-#[derive(Drop)]
+#[derive(Clone, Copy)]
 pub enum PrintAnswer {
     Printed(usize, usize),
     Refused(Refusal),
@@ -224,7 +224,7 @@ pub fn print(
 }
 
 // A bound on the bytes that a line prints, or why there is none.
-#[derive(Drop)]
+#[derive(Clone, Copy)]
 pub enum ForecastAnswer {
     Bytes(usize),
     Refused(Refusal),

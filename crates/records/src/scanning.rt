@@ -30,7 +30,7 @@ fn is_stopped(state: State) -> bool
 }
 
 // The field that starts at a place of a line: its length, the # signs before and behind the point, and whether it is exponential.
-#[derive(Drop)]
+#[derive(Clone, Copy)]
 pub(crate) struct Scanned {
     pub length: usize,
     pub integer: usize,

@@ -16,7 +16,7 @@ use Rattle.decimal.specs.declared.number.Number.{Number}
 use Rattle.decimal.specs.Answer.{Answer, done, refused, ◌then◌, pick}
 use Rattle.decimal.specs.Number.{zero_number, normal}
 use Rattle.decimal.proofs.AnswerLaws.{never_done, done_same, then_done, then_last}
-use Rattle.decimal.proofs.NumberLaws.{check-normal}
+use Rattle.decimal.proofs.NumberLaws.{check_normal}
 use Rattle.codec.specs.Contents.{Table}
 use Rattle.codec.specs.Lists.{no_image}
 use Rattle.codec.specs.Order.{UnsignedFixed}
@@ -77,12 +77,12 @@ keys_each ims (b ∷ bs) h (suc r) l =
     subst (λ (ks : List Number). HasKey ims (get_or bs r []) (get_or ks (suc r) zero_number)) v.joined (keys_each ims bs v.rest r (omega arith))
 
 module _ (table : Table) (file : List ℕ) {keys : List Number} (h : keys_in table file ≡ done keys) where
-  keys-records : length keys ≡ record_count table file
-  keys-records = keys_count table.images (bodies_in table file) h ∙ records_count table file
+  keys_records : length keys ≡ record_count table file
+  keys_records = keys_count table.images (bodies_in table file) h ∙ records_count table file
 
-  keys-shown :
+  keys_shown :
       read_file file ≡ done table → (r : ℕ) → r < record_count table file → HasKey table.images (shown_part file r) (get_or keys r zero_number)
-  keys-shown reads r l =
+  keys_shown reads r l =
       subst (λ (body : List ℕ). HasKey table.images body (get_or keys r zero_number)) (sym (record_at file r reads l))
       (keys_each table.images (bodies_in table file) h r (omega (arith, records_count table file)))
 
@@ -105,7 +105,7 @@ normals_said :
 unfolding check_numbers ◌then◌
 normals_said index [] h = refl
 normals_said index (p ∷ ps) h =
-    rw (check-normal p index (h 0 (omega arith))) (normals_said (suc index) ps (λ i l. h (suc i) (omega arith)))
+    rw (check_normal p index (h 0 (omega arith))) (normals_said (suc index) ps (λ i l. h (suc i) (omega arith)))
 
 -- The call.
 
@@ -126,8 +126,8 @@ asked file ps {s} h =
         reads = one.first;
         page = leb-true (length ps) max_positions (passed (leb (length ps) max_positions) 10 two.0);
         bodies = three.first;
-        records = keys-records table file three.first;
-        each = keys-shown table file three.first one.first;
+        records = keys_records table file three.first;
+        each = keys_shown table file three.first one.first;
         normals = all_normal ps taken.normals;
         positions = (fall_exactly ps).0 taken.positions;
         kind = kind_true (get_or table.images 0 no_image) (passed (is_unsigned_fixed (get_or table.images 0 no_image)) 16 taken.kind);

@@ -35,8 +35,8 @@ module _ (a b : Number) (h : normal a ≡ true) (g : normal b ≡ true) where
       ap is_at_most same
 
   -- numbers in normal form have an order
-  pub never-refused : {B : Type 0} {number place : ℕ} → refused number place ≡ comparison a b → B
-  never-refused e = never_done (e ∙ compared a b h g)
+  pub never_refused : {B : Type 0} {number place : ℕ} → refused number place ≡ comparison a b → B
+  never_refused e = never_done (e ∙ compared a b h g)
 
 -- Looking from the left.
 
@@ -85,39 +85,39 @@ fall_next false last number others = refl
 
 module _ {ns : List Number} {behind : Bool} {last : Number} {falls : Bool} (f : Fallen ns behind last falls) where
   -- with a number more, and others
-  fallen-more :
+  fallen_more :
       (number : Number) (others : List Number)
       → fall (ns ++ number ∷ others) ≡ ((falls || (behind && not (at_most last number))) || fall (number ∷ others))
-  fallen-more number others =
+  fallen_more number others =
       f.rest (number ∷ others)
       ∙ ap (λ (b : Bool). falls || b) (fall_next behind last number others)
       ∙ or_assoc falls (behind && not (at_most last number)) (fall (number ∷ others))
 
-  pub fallen-turns :
+  pub fallen_turns :
       (number : Number) {more : Bool} → more ≡ (falls || (behind && not (at_most last number))) → Fallen (ns ++ number ∷ []) true number more
   unfolding lastly
-  fallen-turns number {more} e =
+  fallen_turns number {more} e =
       record {
         rest =
             λ others.
             ap fall (append_assoc ns (number ∷ []) others)
-            ∙ fallen-more number others
+            ∙ fallen_more number others
             ∙ ap (λ (b : Bool). b || fall (number ∷ others)) (sym e);
       }
 
   -- one that is below the last
-  pub fallen-found : (number : Number) (others : List Number) → true ≡ (behind && not (at_most last number)) → fall (ns ++ number ∷ others) ≡ true
-  fallen-found number others e =
-      fallen-more number others ∙ ap (λ (b : Bool). (falls || b) || fall (number ∷ others)) (sym e) ∙ found falls
+  pub fallen_found : (number : Number) (others : List Number) → true ≡ (behind && not (at_most last number)) → fall (ns ++ number ∷ others) ≡ true
+  fallen_found number others e =
+      fallen_more number others ∙ ap (λ (b : Bool). (falls || b) || fall (number ∷ others)) (sym e) ∙ found falls
     where
       found : (b : Bool) → ((b || true) || fall (number ∷ others)) ≡ true
       found true = refl
       found false = refl
 
   -- at the end
-  pub fallen-ends : falls ≡ fall ns
+  pub fallen_ends : falls ≡ fall ns
   unfolding fall lastly
-  fallen-ends = sym (ap fall (sym (append-nil ns)) ∙ f.rest [] ∙ ap (λ (b : Bool). falls || b) (alone behind) ∙ or_false falls)
+  fallen_ends = sym (ap fall (sym (append-nil ns)) ∙ f.rest [] ∙ ap (λ (b : Bool). falls || b) (alone behind) ∙ or_false falls)
     where
       alone : (b : Bool) → fall (lastly b last ++ []) ≡ false
       alone true = refl

@@ -29,18 +29,18 @@ first_none position = refl
 
 module _ (key : Number) (keys : List Number) (position : Number) where
   -- the first key is at least the position
-  first-here : at_most position key ≡ true → first_record (key ∷ keys) position ≡ 0
+  first_here : at_most position key ≡ true → first_record (key ∷ keys) position ≡ 0
   unfolding first_record
-  first-here h = rw h
+  first_here h = rw h
 
   -- it is not
-  first-later : at_most position key ≡ false → first_record (key ∷ keys) position ≡ suc (first_record keys position)
+  first_later : at_most position key ≡ false → first_record (key ∷ keys) position ≡ suc (first_record keys position)
   unfolding first_record
-  first-later h = rw h
+  first_later h = rw h
 
   -- and the sentence in the same two cases
-  is-here : at_most position key ≡ true → IsFirst (key ∷ keys) position 0
-  is-here h = record { inside = omega arith; reaches = λ l. h; earlier = λ s l. absurd (omega arith) }
+  is_here : at_most position key ≡ true → IsFirst (key ∷ keys) position 0
+  is_here h = record { inside = omega arith; reaches = λ l. h; earlier = λ s l. absurd (omega arith) }
 
   is_later : {r : ℕ} → at_most position key ≡ false → IsFirst keys position r → IsFirst (key ∷ keys) position (suc r)
   is_later {r} h f =
@@ -62,8 +62,8 @@ is_first (key ∷ keys) position = go (at_most position key) refl (is_first keys
   where
     go : (b : Bool) → at_most position key ≡ b → IsFirst keys position (first_record keys position)
         → IsFirst (key ∷ keys) position (first_record (key ∷ keys) position)
-    go true h f = rw (first-here key keys position h) (is-here key keys position h)
-    go false h f = rw (first-later key keys position h) (is_later key keys position h f)
+    go true h f = rw (first_here key keys position h) (is_here key keys position h)
+    go false h f = rw (first_later key keys position h) (is_later key keys position h f)
 
 -- there is only one
 first_only : (keys : List Number) (position : Number) {r s : ℕ} → IsFirst keys position r → IsFirst keys position s → r ≡ s
@@ -122,7 +122,7 @@ firsts_skip : (r : ℕ) {key : Number} (keys : List Number) {ps : List Number} �
 unfolding firsts_from
 firsts_skip r keys AllAbove.none = refl
 firsts_skip r {key} keys (AllAbove.more {p} {ps} h others) =
-    ap₂ (λ (n : ℕ) (l : List ℕ). n ∷ l) (omega (arith, first-later key keys p h)) (firsts_skip r keys others)
+    ap₂ (λ (n : ℕ) (l : List ℕ). n ∷ l) (omega (arith, first_later key keys p h)) (firsts_skip r keys others)
 
 -- the walk's answers, from a record number on
 walk_from : (r : ℕ) (ps keys : List Number) → fall ps ≡ false → (walk r ps keys).records ≡ firsts_from r keys ps
@@ -137,7 +137,7 @@ walk_from r (p ∷ ps) (key ∷ keys) h =
         → (walk r ps (key ∷ keys)).records ≡ firsts_from r (key ∷ keys) ps
         → (walk (suc r) (p ∷ ps) keys).records ≡ firsts_from (suc r) keys (p ∷ ps)
         → (walk r (p ∷ ps) (key ∷ keys)).records ≡ firsts_from r (key ∷ keys) (p ∷ ps)
-    go true e same next = rw e (ap₂ (λ (n : ℕ) (l : List ℕ). n ∷ l) (omega (arith, first-here key keys p e)) same)
+    go true e same next = rw e (ap₂ (λ (n : ℕ) (l : List ℕ). n ∷ l) (omega (arith, first_here key keys p e)) same)
     go false e same next = rw e (next ∙ sym (firsts_skip r keys (all_above key p ps h e)))
 
 -- Published: for positions that do not fall the walk gives the first records.

@@ -14,19 +14,19 @@ use Rattle.codec.specs.Contents.{Table}
 use Rattle.codec.specs.Unpacking.{unpack_body}
 use Rattle.codec.proofs.ContentsLaws.{contents_sound}
 use Rattle.records.specs.Files.{read_file, record_count}
-use Rattle.records.proofs.FileLaws.{file-told}
+use Rattle.records.proofs.FileLaws.{file_told}
 use Rattle.records.proofs.LinesLaws.{
   TableHeld,
   table_held,
   file_reaches,
   Ahead,
-  bodies-ahead,
-  bodies-over,
-  bodies-next,
+  bodies_ahead,
+  bodies_over,
+  bodies_next,
   bodies_all,
   bodies_none,
   body_at,
-  bodiesBehind,
+  bodies_behind,
   bodies_left,
 }
 use Rattle.rolls.specs.Searching.{keys_of, keys_in, HasContents}
@@ -35,28 +35,28 @@ use Rattle.rolls.specs.Searching.{keys_of, keys_in, HasContents}
 
 module _ {file : List ℕ} {c : Contents} (h : HasContents file c) where
   -- its contents
-  pub contents-held : TableHeld h.table c
-  contents-held = table_held h.table (contents_sound file (file-told file h.reads).contents) h.told
+  pub contents_held : TableHeld h.table c
+  contents_held = table_held h.table (contents_sound file (file_told file h.reads).contents) h.told
 
   -- no body is empty
   pub contents_some : 0 < body_size h.table.images
-  contents_some = (file-told file h.reads).some
+  contents_some = (file_told file h.reads).some
 
 -- One body after the other.
 
 module _ (ims : List Image) (b : List ℕ) (bs : List (List ℕ)) where
   -- a body that is refused
-  keys-refused : {x y : ℕ} → unpack_body ims b ≡ refused x y → keys_of ims (b ∷ bs) ≡ refused x y
+  keys_refused : {x y : ℕ} → unpack_body ims b ≡ refused x y → keys_of ims (b ∷ bs) ≡ refused x y
   unfolding keys_of ◌then◌
-  keys-refused h = rw h
+  keys_refused h = rw h
 
   -- a body that is read
-  keys-next :
+  keys_next :
       {ns : List Number}
       → unpack_body ims b ≡ done ns
       → keys_of ims (b ∷ bs) ≡ (keys_of ims bs then λ keys. done (get_or ns 0 zero_number ∷ keys))
   unfolding keys_of ◌then◌
-  keys-next h = rw h
+  keys_next h = rw h
 
 -- keys behind those that were read
 then_joined :
@@ -78,7 +78,7 @@ keying_starts file {table} h e =
     subst (λ (k : ℕ). Keying file table k []) (sym e)
     (record {
       left = record_count table file;
-      reaches = file_reaches (file-told file h);
+      reaches = file_reaches (file_told file h);
       rest =
           sym (then_same (keys_in table file))
           ∙ ap (λ (bs : List (List ℕ)). keys_of table.images bs then λ keys. done keys) (bodies_all file table);
@@ -90,10 +90,10 @@ module _ {file : List ℕ} {table : Table} {place : ℕ} {ks : List Number} (c :
   size = body_size table.images
 
   -- at the end
-  pub keying-ends : 0 < size → length file ≤ place → keys_in table file ≡ done ks
+  pub keying_ends : 0 < size → length file ≤ place → keys_in table file ≡ done ks
   unfolding keys_of ◌then◌
-  keying-ends some l =
-      let over = bodies-over file size place c.left some c.reaches l in
+  keying_ends some l =
+      let over = bodies_over file size place c.left some c.reaches l in
       c.rest
       ∙ ap (λ (bs : List (List ℕ)). keys_of table.images bs then λ keys. done (ks ++ keys))
       (ap (bodies_left file table place) over ∙ bodies_none file table place)
@@ -102,7 +102,7 @@ module _ {file : List ℕ} {table : Table} {place : ℕ} {ks : List Number} (c :
   module _ (l : place < length file) where
     -- one body is left at least
     ahead : Ahead file size place c.left
-    ahead = bodies-ahead file size place c.left c.reaches l
+    ahead = bodies_ahead file size place c.left c.reaches l
 
     -- it ends within the file
     pub keying-inside : place + size ≤ length file
@@ -113,19 +113,19 @@ module _ {file : List ℕ} {table : Table} {place : ℕ} {ks : List Number} (c :
     body = body_at file size place
 
     abbrev behind : List (List ℕ)
-    behind = bodiesBehind file size place ahead.others
+    behind = bodies_behind file size place ahead.others
 
     -- what they say
     keying-rest : keys_in table file ≡ (keys_of table.images (body ∷ behind) then λ keys. done (ks ++ keys))
     keying-rest =
         c.rest
-        ∙ ap (λ (bs : List (List ℕ)). keys_of table.images bs then λ keys. done (ks ++ keys)) (bodies-next file size place c.left ahead)
+        ∙ ap (λ (bs : List (List ℕ)). keys_of table.images bs then λ keys. done (ks ++ keys)) (bodies_next file size place c.left ahead)
 
     -- the body is refused
     pub keying-stops : {x y : ℕ} → unpack_body table.images body ≡ refused x y → keys_in table file ≡ refused x y
     unfolding ◌then◌
     keying-stops h =
-        keying-rest ∙ ap (λ (a : Answer (List Number)). a then λ keys. done (ks ++ keys)) (keys-refused table.images body behind h)
+        keying-rest ∙ ap (λ (a : Answer (List Number)). a then λ keys. done (ks ++ keys)) (keys_refused table.images body behind h)
 
     -- it is read
     pub keying-turns :
@@ -142,6 +142,6 @@ module _ {file : List ℕ} {table : Table} {place : ℕ} {ks : List Number} (c :
           reaches = ahead.reaches;
           rest =
               keying-rest
-              ∙ ap (λ (a : Answer (List Number)). a then λ keys. done (ks ++ keys)) (keys-next table.images body behind h)
+              ∙ ap (λ (a : Answer (List Number)). a then λ keys. done (ks ++ keys)) (keys_next table.images body behind h)
               ∙ then_joined (keys_of table.images behind) (get_or ns 0 zero_number) ks;
         }))

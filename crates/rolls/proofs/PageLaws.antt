@@ -13,21 +13,21 @@ use Rattle.decimal.specs.declared.image.Image.{Image}
 use Rattle.decimal.specs.declared.number.Number.{Number}
 use Rattle.decimal.specs.Answer.{Answer, done, refused, ◌then◌}
 use Rattle.decimal.specs.Number.{zero_number, normal, check_number}
-use Rattle.decimal.proofs.NumberLaws.{check-normal, check-abnormal}
+use Rattle.decimal.proofs.NumberLaws.{check_normal, check_abnormal}
 use Rattle.decimal.proofs.AnswerLaws.{never, then_done}
 use Rattle.codec.specs.Lists.{no_image}
-use Rattle.codec.proofs.ListLaws.{default_free, filled-length, filled_at}
+use Rattle.codec.proofs.ListLaws.{default_free, filled_length, filled_at}
 use Rattle.rolls.specs.declared.searching.Positions.{Positions}
 use Rattle.rolls.specs.Falling.{at_most, fall}
 use Rattle.rolls.specs.Searching.{position_list, check_numbers, is_unsigned_fixed, check_kind, refuse_where, check_page}
-use Rattle.rolls.proofs.FallLaws.{Fallen, fallen_starts, fallen-turns, fallen-found, fallen-ends}
+use Rattle.rolls.proofs.FallLaws.{Fallen, fallen_starts, fallen_turns, fallen_found, fallen_ends}
 
 -- The list.
 
 -- its length is the count
 pub positions_count : (positions : Positions) → length (position_list positions) ≡ positions.count
 unfolding position_list
-positions_count positions = filled-length zero_number positions.count positions.values
+positions_count positions = filled_length zero_number positions.count positions.values
 
 -- what stands for a number behind an array's end
 abbrev pub nothing : Number
@@ -54,9 +54,9 @@ module _ (ps : List Number) where
   checking_starts = record { rest = refl }
 
   -- at the end
-  pub checking-ends : {index : ℕ} → Checking index → length ps ≤ index → check_numbers 0 ps ≡ done tt
+  pub checking_ends : {index : ℕ} → Checking index → length ps ≤ index → check_numbers 0 ps ≡ done tt
   unfolding check_numbers
-  checking-ends {index} c l = c.rest ∙ ap (check_numbers index) (drop_of_length-le ps l)
+  checking_ends {index} c l = c.rest ∙ ap (check_numbers index) (drop_of_length-le ps l)
 
   module _ {index : ℕ} (c : Checking index) (more : index < length ps) where
     -- with one more
@@ -72,14 +72,14 @@ module _ (ps : List Number) where
         (record {
           rest =
               checking-step
-              ∙ ap (λ (a : Answer Number). a then λ _. check_numbers (suc index) (drop (suc index) ps)) (check-normal (get_or ps index zero_number) index h);
+              ∙ ap (λ (a : Answer Number). a then λ _. check_numbers (suc index) (drop (suc index) ps)) (check_normal (get_or ps index zero_number) index h);
         })
 
     pub checking-stops : normal (get_or ps index zero_number) ≡ false → check_numbers 0 ps ≡ refused 3 index
     unfolding ◌then◌
     checking-stops h =
         checking-step
-        ∙ ap (λ (a : Answer Number). a then λ _. check_numbers (suc index) (drop (suc index) ps)) (check-abnormal (get_or ps index zero_number) index h)
+        ∙ ap (λ (a : Answer Number). a then λ _. check_numbers (suc index) (drop (suc index) ps)) (check_abnormal (get_or ps index zero_number) index h)
 
 -- all that are looked through are in normal form
 numbers_normal : (index : ℕ) (ps : List Number) → check_numbers index ps ≡ done tt → (i : ℕ) → i < length ps → normal (get_or ps i zero_number) ≡ true
@@ -90,7 +90,7 @@ numbers_normal index (p ∷ ps) h zero l =
   where
     checked : (b : Bool) → normal p ≡ b → {n : Number} → check_number index p ≡ done n → normal p ≡ true
     checked true e g = e
-    checked false e g = never (check-abnormal p index e) g
+    checked false e g = never (check_abnormal p index e) g
 numbers_normal index (p ∷ ps) h (suc i) l =
     let both = then_done (check_number index p) (λ (n : Number). check_numbers (suc index) ps) h in
     numbers_normal (suc index) ps both.second i (omega arith)
@@ -105,12 +105,12 @@ module _ (ps : List Number) where
   pub record Rising (index : ℕ) (last : Number) : Type 0 where
     pub so_far : Fallen (take index ps) (ltb 0 index) last false
 
-  pub rising-starts : (last : Number) → Rising 0 last
-  rising-starts last = record { so_far = fallen_starts last }
+  pub rising_starts : (last : Number) → Rising 0 last
+  rising_starts last = record { so_far = fallen_starts last }
 
   -- at the end
-  pub rising-ends : {index : ℕ} {last : Number} → Rising index last → length ps ≤ index → false ≡ fall ps
-  rising-ends {index} r l = fallen-ends r.so_far ∙ ap fall (take_all index ps l)
+  pub rising_ends : {index : ℕ} {last : Number} → Rising index last → length ps ≤ index → false ≡ fall ps
+  rising_ends {index} r l = fallen_ends r.so_far ∙ ap fall (take_all index ps l)
 
   module _ {index : ℕ} {last : Number} (r : Rising index last) (more : index < length ps) where
     -- one that is not below the last
@@ -122,7 +122,7 @@ module _ (ps : List Number) where
           so_far =
               subst (λ (b : Bool). Fallen (take (index + 1) ps) b number false) (sym (lt-ltb 0 (index + 1) (omega arith)))
               (subst (λ (l : List Number). Fallen l true number false) (sym (take-suc ps index zero_number more) ∙ ap (λ (k : ℕ). take k ps) one)
-              (fallen-turns r.so_far number h));
+              (fallen_turns r.so_far number h));
         }
 
     -- one that is
@@ -130,15 +130,15 @@ module _ (ps : List Number) where
     rising-stops h =
         sym
         (ap fall (split_at ps index zero_number more)
-        ∙ fallen-found r.so_far (get_or ps index zero_number) (drop (suc index) ps) h)
+        ∙ fallen_found r.so_far (get_or ps index zero_number) (drop (suc index) ps) h)
 
 -- What is asked of a page.
 
 module _ (ims : List Image) (ps : List Number) (falls : Bool) where
   -- 3
-  pub page-abnormal : {x y : ℕ} → check_numbers 0 ps ≡ refused x y → check_page ims ps falls ≡ refused x y
+  pub page_abnormal : {x y : ℕ} → check_numbers 0 ps ≡ refused x y → check_page ims ps falls ≡ refused x y
   unfolding check_page ◌then◌
-  page-abnormal h = rw h
+  page_abnormal h = rw h
 
   module _ (normals : check_numbers 0 ps ≡ done tt) where
     -- 16

@@ -22,7 +22,7 @@ use Rattle.records.proofs.LinesLaws.{body_at}
 use Rattle.rolls.specs.declared.searching.Walked.{Walked}
 use Rattle.rolls.specs.Falling.{at_most, fall}
 use Rattle.rolls.specs.Searching.{max_positions, keys_in, walk, check_numbers, Walks}
-use Rattle.rolls.proofs.FallLaws.{Fallen, fallen_starts, fallen-turns}
+use Rattle.rolls.proofs.FallLaws.{Fallen, fallen_starts, fallen_turns}
 use Rattle.rolls.proofs.KeyLaws.{Keying, keying_starts, keying-turns}
 use Rattle.rolls.proofs.WalkLaws.{Walking, walking_starts}
 
@@ -56,24 +56,24 @@ module _ {file : List ℕ} {table : Table} {ps : List Number} {records : List �
     {ns : List Number} {number : Number} (h : unpack_body table.images (body_at file (body_size table.images) place) ≡ done ns)
     (k : number ≡ get_or ns 0 zero_number) where
   -- the key is in normal form
-  pub key-normal : normal number ≡ true
-  key-normal = ap normal k ∙ unpacked_normal table.images (body_at file (body_size table.images) place) h 0
+  pub key_normal : normal number ≡ true
+  key_normal = ap normal k ∙ unpacked_normal table.images (body_at file (body_size table.images) place) h 0
 
   -- a record more
-  pub passing-turns :
+  pub passing_turns :
       {after : List ℕ} {compared then_next : ℕ} {fell : Bool} {then-place : ℕ}
       → fell ≡ (falls || (ltb 0 r && not (at_most last number)))
       → (check_numbers 0 ps ≡ done tt → Walking ps (p.keys ++ number ∷ []) [] then_next (r + 1) compared after)
       → then-place ≡ place + body_size table.images
       → Passing file table ps after compared then_next fell number (r + 1) then-place
-  passing-turns {after} {compared} {then_next} {fell} f w e =
+  passing_turns {after} {compared} {then_next} {fell} f w e =
       record {
         keys = p.keys ++ number ∷ [];
         reads = keying-turns p.reads l h k e;
         fallen =
             subst (λ (b : Bool). Fallen (p.keys ++ number ∷ []) b number fell) (sym (lt-ltb 0 (r + 1) (omega arith)))
-            (fallen-turns p.fallen number f);
-        last_normal = key-normal;
+            (fallen_turns p.fallen number f);
+        last_normal = key_normal;
         walks = w;
       }
 
@@ -81,14 +81,14 @@ module _ {file : List ℕ} {table : Table} {ps : List Number} {records : List �
 
 module _ {file : List ℕ} {table : Table} (ps : List Number) where
   -- a record is refused
-  pub pass-refused :
+  pub pass_refused :
       {x y : ℕ} {w : Walked} → keys_in table file ≡ refused x y → check_meaning w.answer ≡ refused x y → Walks file table ps w
   unfolding checked_only
-  pass-refused {w = w} h e =
+  pass_refused {w = w} h e =
       record { answers = e ∙ sym (ap checked_only h); falls = λ g. never h g; walks = λ g _. never h g }
 
   -- all are read
-  pub pass-done :
+  pub pass_done :
       {keys : List Number} {w : Walked}
       → keys_in table file ≡ done keys
       → check_meaning w.answer ≡ done tt
@@ -97,7 +97,7 @@ module _ {file : List ℕ} {table : Table} (ps : List Number) where
       → (w.records ≡ filled max_positions 0 (walk 0 ps keys).records) × (w.comparisons ≡ (walk 0 ps keys).comparisons))
       → Walks file table ps w
   unfolding checked_only
-  pass-done {keys} {w} h e f k =
+  pass_done {keys} {w} h e f k =
       record {
         answers = e ∙ sym (ap checked_only h);
         falls = λ g. f ∙ ap fall (one_answer h g);

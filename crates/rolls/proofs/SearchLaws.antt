@@ -44,9 +44,9 @@ page_taken ims ps falls h =
 
 module _ (file : List ℕ) (ps : List Number) where
   -- the file is refused
-  pub search-file : {x y : ℕ} → read_file file ≡ refused x y → searching file ps ≡ refused x y
+  pub search_file : {x y : ℕ} → read_file file ≡ refused x y → searching file ps ≡ refused x y
   unfolding searching ◌then◌
-  search-file h = rw h
+  search_file h = rw h
 
   module _ {table : Table} (reads : read_file file ≡ done table) where
     -- 10

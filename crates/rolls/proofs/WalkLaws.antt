@@ -9,7 +9,7 @@ use lib.Seq.{drop-cons}
 use Rattle.decimal.specs.declared.number.Number.{Number}
 use Rattle.decimal.specs.Number.{zero_number}
 use Rattle.codec.specs.Lists.{filled}
-use Rattle.codec.proofs.ListLaws.{filled-set}
+use Rattle.codec.proofs.ListLaws.{filled_set}
 use Rattle.rolls.specs.Falling.{at_most}
 use Rattle.rolls.specs.Searching.{max_positions, Search, giving, comparing, walk}
 
@@ -17,19 +17,19 @@ use Rattle.rolls.specs.Searching.{max_positions, Search, giving, comparing, walk
 
 module _ (r : ℕ) (p : Number) (ps : List Number) where
   -- the record is at least as large: the next position
-  walk-reached : (k : Number) (ks : List Number) → at_most p k ≡ true → walk r (p ∷ ps) (k ∷ ks) ≡ comparing (giving r (walk r ps (k ∷ ks)))
+  walk_reached : (k : Number) (ks : List Number) → at_most p k ≡ true → walk r (p ∷ ps) (k ∷ ks) ≡ comparing (giving r (walk r ps (k ∷ ks)))
   unfolding walk
-  walk-reached k ks h = rw h
+  walk_reached k ks h = rw h
 
   -- else the next record
-  walk-passed : (k : Number) (ks : List Number) → at_most p k ≡ false → walk r (p ∷ ps) (k ∷ ks) ≡ comparing (walk (suc r) (p ∷ ps) ks)
+  walk_passed : (k : Number) (ks : List Number) → at_most p k ≡ false → walk r (p ∷ ps) (k ∷ ks) ≡ comparing (walk (suc r) (p ∷ ps) ks)
   unfolding walk
-  walk-passed k ks h = rw h
+  walk_passed k ks h = rw h
 
   -- a position left over
-  walk-left : walk r (p ∷ ps) [] ≡ giving r (walk r ps [])
+  walk_left : walk r (p ∷ ps) [] ≡ giving r (walk r ps [])
   unfolding walk
-  walk-left = refl
+  walk_left = refl
 
 -- nothing is compared where no record is left
 pub left_comparisons : (r : ℕ) (ps : List Number) → (walk r ps []).comparisons ≡ 0
@@ -58,7 +58,7 @@ given_set :
 given_set given {records} {next} r e h few =
     ap (λ (l : List ℕ). set l next r) h
     ∙ ap (λ (i : ℕ). set (filled max_positions 0 given) i r) (sym e)
-    ∙ filled-set 0 max_positions given r (omega arith)
+    ∙ filled_set 0 max_positions given r (omega arith)
 
 -- and they are one more
 given_more : (given : List ℕ) {next : ℕ} (r : ℕ) → length given ≡ next → length (given ++ r ∷ []) ≡ next + 1
@@ -112,7 +112,7 @@ module _ {ps ks : List Number} {k : Number} {next r comparisons : ℕ} {records 
         let step : (others : List Number) → walk r (drop next ps) (k ∷ others) ≡ comparing (giving r (walk r (drop (next + 1) ps) (k ∷ others))) =
         λ others.
         ap (λ (l : List Number). walk r l (k ∷ others)) positions-left
-        ∙ walk-reached r position (drop (suc next) ps) k others h
+        ∙ walk_reached r position (drop (suc next) ps) k others h
         ∙ ap (λ (i : ℕ). comparing (giving r (walk r (drop i ps) (k ∷ others)))) one in
         record {
           given = w.given ++ r ∷ [];
@@ -136,7 +136,7 @@ module _ {ps ks : List Number} {k : Number} {next r comparisons : ℕ} {records 
         let step : (others : List Number) → walk r (drop next ps) (k ∷ others) ≡ comparing (walk (r + 1) (drop next ps) others) =
         λ others.
         ap (λ (l : List Number). walk r l (k ∷ others)) positions-left
-        ∙ walk-passed r position (drop (suc next) ps) k others h
+        ∙ walk_passed r position (drop (suc next) ps) k others h
         ∙ ap (λ (l : List Number). comparing (walk (suc r) l others)) (sym positions-left)
         ∙ ap (λ (i : ℕ). comparing (walk i (drop next ps) others)) one in
         record {
@@ -159,8 +159,8 @@ module _ {ps ks : List Number} {k : Number} {next r comparisons : ℕ} {records 
         }
 
   -- no position is left
-  pub walking-over : length ps ≤ next → Walking ps (ks ++ k ∷ []) [] next (r + 1) comparisons records
-  walking-over l =
+  pub walking_over : length ps ≤ next → Walking ps (ks ++ k ∷ []) [] next (r + 1) comparisons records
+  walking_over l =
       let none = drop_of_length-le ps l in
       let nothing : (i : ℕ) (xs : List Number) → (walk i (drop next ps) xs).records ≡ [] =
       λ i xs. ap (λ (l : List Number). (walk i l xs).records) none ∙ none_records i xs in
@@ -221,13 +221,13 @@ filling_starts {ps} {ks} w =
 
 module _ {ps : List Number} {r : ℕ} {whole : List ℕ} {next : ℕ} {records : List ℕ} (f : Filling ps r whole next records) where
   -- one more
-  pub filling-turns : next < length ps → next < max_positions → Filling ps r whole (next + 1) (set records next r)
+  pub filling_turns : next < length ps → next < max_positions → Filling ps r whole (next + 1) (set records next r)
   unfolding giving
-  filling-turns more few =
+  filling_turns more few =
       let one : suc next ≡ next + 1 = omega arith in
       let step : walk r (drop next ps) [] ≡ giving r (walk r (drop (next + 1) ps) []) =
       ap (λ (l : List Number). walk r l []) (drop-cons ps next zero_number more)
-      ∙ walk-left r (get_or ps next zero_number) (drop (suc next) ps)
+      ∙ walk_left r (get_or ps next zero_number) (drop (suc next) ps)
       ∙ ap (λ (i : ℕ). giving r (walk r (drop i ps) [])) one in
       record {
         given = f.given ++ r ∷ [];
@@ -240,8 +240,8 @@ module _ {ps : List Number} {r : ℕ} {whole : List ℕ} {next : ℕ} {records :
       }
 
   -- at the end
-  pub filling-ends : length ps ≤ next → records ≡ filled max_positions 0 whole
-  filling-ends l =
+  pub filling_ends : length ps ≤ next → records ≡ filled max_positions 0 whole
+  filling_ends l =
       let none : (walk r (drop next ps) []).records ≡ [] =
       ap (λ (x : List Number). (walk r x []).records) (drop_of_length-le ps l) ∙ none_records r [] in
       f.holds

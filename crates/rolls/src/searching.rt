@@ -33,28 +33,28 @@ pub const RECORDS_FALL: u8 = 15;
 pub const WRONG_KIND: u8 = 16;
 
 // A page's positions: the first count of the values. A count above POSITIONS is a list longer than any page has.
-#[derive(Drop)]
+#[derive(Clone, Copy)]
 pub struct Positions {
     pub values: [Number; POSITIONS],
     pub count: usize,
 }
 
 // The count of comparisons made, or why nothing was looked for.
-#[derive(Drop)]
+#[derive(Clone, Copy)]
 pub enum FindAnswer {
     Found(usize),
     Refused(Refusal),
 }
 
 // For each position the number of a record, 0 behind the last position. Where the answer is a refusal all are 0.
-#[derive(Drop)]
+#[derive(Clone, Copy)]
 pub struct Found {
     pub answer: FindAnswer,
     pub records: [usize; POSITIONS],
 }
 
 // What reading all records tells: whether they fall, and what the walk over them gives for positions in normal form.
-#[derive(Drop)]
+#[derive(Clone, Copy)]
 pub(crate) struct Walked {
     pub answer: CheckAnswer,
     pub falls: bool,

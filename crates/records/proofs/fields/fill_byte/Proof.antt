@@ -5,7 +5,7 @@ use mathlib.Core.Bool.{Bool, true, false, not}
 use Rattle.decimal.specs.Answer.{pick}
 use Rattle.codec.specs.Alpha.{zero_byte}
 use Rattle.records.specs.Fields.{suppressed, sign_byte_of}
-use Rattle.records.proofs.FieldLaws.{shown-hash, shown-comma, fill-blank, fill-digit, fill-comma, fill-point, fill-sign}
+use Rattle.records.proofs.FieldLaws.{shown_hash, shown_comma, fill_blank, fill_digit, fill_comma, fill_point, fill_sign}
 use borrow.Author.Rules.{rules}
 use Rattle.records.proofs.fields.fill_byte.Statement.{statement}
 use Rattle.records.proofs.fields.fill_byte.Tie as tie
@@ -35,7 +35,7 @@ returns c =
     λ im t fill f.
     let is = k.match.keys1 in
     ap (λ (x : ℕ). zero_byte + x) (f.digits is)
-    ∙ fill-digit a.marks im t fill is (is_shown (suppressed im t fill) (sym c.if1.true ∙ f.behind ∙ shown-hash im t fill is))
+    ∙ fill_digit a.marks im t fill is (is_shown (suppressed im t fill) (sym c.if1.true ∙ f.behind ∙ shown_hash im t fill is))
 
 returns_2 : tie.Need-returns-2
 returns_2 c =
@@ -43,7 +43,7 @@ returns_2 c =
     let a = k.before.args in
     λ im t fill f.
     let is = k.match.keys1 in
-    fill-blank a.marks im t fill is (not_shown (suppressed im t fill) (sym c.if1.false ∙ f.behind ∙ shown-hash im t fill is))
+    fill_blank a.marks im t fill is (not_shown (suppressed im t fill) (sym c.if1.false ∙ f.behind ∙ shown_hash im t fill is))
 
 returns_3 : tie.Need-returns-3
 returns_3 c =
@@ -52,13 +52,13 @@ returns_3 c =
     λ im t fill f.
     let is = k.match.keys2 in
     c.comma_byte_lem.ensures
-    ∙ ap (λ (b : Bool). pick b a.marks.thousands a.marks.filling) (f.behind ∙ shown-comma im t fill is)
-    ∙ fill-comma a.marks im t fill is
+    ∙ ap (λ (b : Bool). pick b a.marks.thousands a.marks.filling) (f.behind ∙ shown_comma im t fill is)
+    ∙ fill_comma a.marks im t fill is
 
 returns_4 : tie.Need-returns-4
 returns_4 c =
     let a = c.before.args in
-    λ im t fill f. fill-point a.marks im t fill c.match.keys3
+    λ im t fill f. fill_point a.marks im t fill c.match.keys3
 
 returns_5 : tie.Need-returns-5
 returns_5 c =
@@ -68,7 +68,7 @@ returns_5 c =
     λ im t fill f.
     c.sign-byte.ensures
     ∙ ap (sign_byte_of a.byte) f.signed
-    ∙ fill-sign a.marks im t fill r.0.0.1 r.0.1 r.1
+    ∙ fill_sign a.marks im t fill r.0.0.1 r.0.1 r.1
 
 pub fill_byte_spec : {M : Type 1} → statement M
 fill_byte_spec =

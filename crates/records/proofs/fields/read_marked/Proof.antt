@@ -12,7 +12,7 @@ use lib.Seq.{length-take-le}
 use Rattle.codec.specs.Text.{convert_text}
 use Rattle.records.specs.Marks.{without_marks}
 use Rattle.records.specs.Fields.{read_marked}
-use Rattle.records.proofs.ReadFieldLaws.{text_room, long_refused, drops-byte, keeps-byte, stored_behind, kept_all}
+use Rattle.records.proofs.ReadFieldLaws.{text_room, long_refused, drops_byte, keeps_byte, stored_behind, kept_all}
 use Rattle.records.proofs.fields.read_marked.Statement.{statement}
 use Rattle.records.proofs.fields.read_marked.Tie as tie
 
@@ -41,7 +41,7 @@ returns c =
     let l = r.before.before.before.loop in
     let a = r.before.before.before.before.before.args in
     let left = without_marks a.marks (drop l.j a.field.now) in
-    let kept = keeps-byte a.marks a.field.now l.j (omega arith) (sym r.is-dropped.ensures ∙ not-true r.is-dropped.result c.before.if1.true) in
+    let kept = keeps_byte a.marks a.field.now l.j (omega arith) (sym r.is-dropped.ensures ∙ not-true r.is-dropped.result c.before.if1.true) in
     sym (long_refused a.marks a.field.now (omega (arith, ap length l.invariant.3, length-append (take l.auto l.text) left, length-take-le l.auto l.text (omega arith), ap length kept)))
 
 read_byte_requires : tie.Need-read-byte-requires invariant_loop decreases_loop
@@ -73,7 +73,7 @@ loop_again c =
       omega arith,
       ap length w.3 ∙ length-set l.text l.auto w.2.result ∙ l.invariant.2,
       l.invariant.3
-          ∙ ap (λ (s : List ℕ). take l.auto l.text ++ s) (keeps-byte a.marks field l.j (omega arith) (sym r.is-dropped.ensures ∙ not-true r.is-dropped.result w.0.taken))
+          ∙ ap (λ (s : List ℕ). take l.auto l.text ++ s) (keeps_byte a.marks field l.j (omega arith) (sym r.is-dropped.ensures ∙ not-true r.is-dropped.result w.0.taken))
           ∙ ap (λ (b : ℕ). take l.auto l.text ++ b ∷ rest) (sym w.2.ensures)
           ∙ stored_behind l.text l.auto w.2.result rest (omega arith)
           ∙ sym (λ i. take (w.4 i) (w.3 i) ++ rest),
@@ -83,7 +83,7 @@ loop_again c =
       omega arith,
       ap length w.1 ∙ l.invariant.2,
       l.invariant.3
-          ∙ ap (λ (s : List ℕ). take l.auto l.text ++ s) (drops-byte a.marks field l.j (omega arith) (sym r.is-dropped.ensures ∙ not-false r.is-dropped.result w.0.left))
+          ∙ ap (λ (s : List ℕ). take l.auto l.text ++ s) (drops_byte a.marks field l.j (omega arith) (sym r.is-dropped.ensures ∙ not-false r.is-dropped.result w.0.left))
           ∙ sym (λ i. take (w.2 i) (w.1 i) ++ rest),
     ))
     c.if1.branch

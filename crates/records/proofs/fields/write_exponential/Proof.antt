@@ -15,7 +15,7 @@ use Rattle.codec.specs.Alpha.{alpha_text}
 use Rattle.records.specs.Marks.{with_decimal}
 use Rattle.records.specs.Fields.{point_marked}
 use Rattle.records.proofs.MarkLaws.{point_marked_lem}
-use Rattle.records.proofs.FieldLaws.{stored_part, part_back, exponential-length, alpha-refused, alpha-written, number_refused, number-alpha}
+use Rattle.records.proofs.FieldLaws.{stored_part, part_back, exponential_length, alpha_refused, alpha_written, number_refused, number_alpha}
 use borrow.Author.Rules.{rules}
 use Rattle.records.proofs.fields.write_exponential.Statement.{statement}
 use Rattle.records.proofs.fields.write_exponential.Tie as tie
@@ -53,7 +53,7 @@ returns c =
     let part = take k (drop a.at b) in
     let room : length part ≡ k = length-take-le k (drop a.at b) (omega (arith, length-drop a.at b)) in
     let told = c.before.before.before.before.enum_told.given in
-    let spilled = alpha-refused s.requires.0 s.requires.1 s.requires.2 a.number (omega (arith, s.requires.3)) (sym (ap write_meaning told.1) ∙ w.write-alpha-under.ensures.0) in
+    let spilled = alpha_refused s.requires.0 s.requires.1 s.requires.2 a.number (omega (arith, s.requires.3)) (sym (ap write_meaning told.1) ∙ w.write-alpha-under.ensures.0) in
     let none = ap (λ (im : Image). truncation 0 im a.number) (sym s.requires.1) ∙ spilled.truncated in
     let stays : w.write-alpha-under.new.1.1.0 ≡ part = w.write-alpha-under.ensures.1 ∙ ap (λ (x : Answer (List ℕ)). stored_in x part) spilled.answer in
     c.before.before.write-spilled.ensures
@@ -67,7 +67,7 @@ mark_point_requires : tie.Need-mark-point-requires
 mark_point_requires c κs =
     let s = c.before.before.before.before.before.before.before.before.before in
     let a = s.args in
-    let size = exponential-length s.requires.0 s.requires.1 s.requires.2 a.number {room = length a.field.now} (omega arith) in
+    let size = exponential_length s.requires.0 s.requires.1 s.requires.2 a.number {room = length a.field.now} (omega arith) in
     (omega (arith, ap hashes s.requires.1, s.requires.0.fits), omega (arith, size, s.requires.3))
 
 same_length_2 : tie.Need-same-length-2
@@ -84,7 +84,7 @@ returns_2 c =
     let part = take k (drop a.at b) in
     let room : length part ≡ k = length-take-le k (drop a.at b) (omega (arith, length-drop a.at b)) in
     let told = c.before.before.before.before.enum-told2.given in
-    let shown = alpha-written s.requires.0 s.requires.1 s.requires.2 a.number (omega (arith, s.requires.3)) (sym (ap write_meaning told.1) ∙ w.write-alpha-under.ensures.0) in
+    let shown = alpha_written s.requires.0 s.requires.1 s.requires.2 a.number (omega (arith, s.requires.3)) (sym (ap write_meaning told.1) ∙ w.write-alpha-under.ensures.0) in
     let kind = sym (ap (λ (im : Image). im.exponential) s.requires.1) ∙ s.requires.2 in
     let to = ap (λ (im : Image). truncation 0 im a.number) (sym s.requires.1) ∙ shown.truncated in
     let text = alpha_text a.image shown.to in
@@ -93,7 +93,7 @@ returns_2 c =
     ∙ ap (point_marked a.marks a.image a.at) put
     ∙ point_marked_lem a.marks a.image shown.to b a.at (omega (arith, s.requires.3))
     ∙ ap (λ (im : Image). written b a.at (with_decimal a.marks (alpha_text im shown.to))) s.requires.1
-    ∙ ap (written b a.at) (sym (number-alpha a.marks field a.number to kind))
+    ∙ ap (written b a.at) (sym (number_alpha a.marks field a.number to kind))
 
 pub write_exponential_spec : {M : Type 1} → statement M
 write_exponential_spec =

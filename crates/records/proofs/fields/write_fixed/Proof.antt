@@ -10,7 +10,7 @@ use Rattle.codec.proofs.BufferLaws.{written_pasted}
 use Rattle.records.specs.declared.fields.Fill.{Fill}
 use Rattle.records.specs.Fields.{fill_next, fill_bytes, nothing_filled, Filled}
 use Rattle.records.proofs.WritingLaws.{paste_turn}
-use Rattle.records.proofs.FieldLaws.{Filling, filling_starts, filling_byte, filling-hash, filling-turns, fill_length}
+use Rattle.records.proofs.FieldLaws.{Filling, filling_starts, filling_byte, filling_hash, filling_turns, fill_length}
 use Rattle.records.proofs.fields.write_fixed.Statement.{statement}
 use Rattle.records.proofs.fields.write_fixed.Tie as tie
 
@@ -40,13 +40,13 @@ digit_for_requires : tie.Need-digit-for-requires invariant_loop decreases_loop
 digit_for_requires c κs =
     let l = c.before.before in
     let s = l.before.before.before in
-    record { held = s.requires.0; left = filling-hash l.loop.invariant.3 (omega arith) }
+    record { held = s.requires.0; left = filling_hash l.loop.invariant.3 (omega arith) }
 
 fill_next_requires : tie.Need-fill-next-requires invariant_loop decreases_loop
 fill_next_requires c κs =
     let l = c.before.before.before in
     let s = l.before.before.before in
-    (s.requires.0.size, filling-hash l.loop.invariant.3 (omega arith))
+    (s.requires.0.size, filling_hash l.loop.invariant.3 (omega arith))
 
 fill_byte_requires : tie.Need-fill-byte-requires invariant_loop decreases_loop
 fill_byte_requires c κs = c.before.digit-for.ensures.1
@@ -81,7 +81,7 @@ loop_again c =
       length-set l.buffer (a.at + l.j) c.fill-byte.result ∙ l.invariant.1,
       paste_turn (fill_bytes a.marks a.image t nothing_filled a.field.now) a.buffer.now l.buffer a.at l.j (omega (arith, s.requires.2)) (omega arith) l.invariant.2
           (c.fill-byte.ensures a.image t l.fill filled ∙ filling_byte l.invariant.3 inside),
-      subst (λ (f : Fill). Filling a.marks a.image t a.field.now f (l.j + 1)) (sym next) (filling-turns l.invariant.3 inside),
+      subst (λ (f : Fill). Filling a.marks a.image t a.field.now f (l.j + 1)) (sym next) (filling_turns l.invariant.3 inside),
     )
 
 same_length : tie.Need-same-length invariant_loop decreases_loop

@@ -8,7 +8,7 @@ use Rattle.decimal.specs.Truncation.{truncation}
 use Rattle.codec.specs.Answers.{written}
 use Rattle.codec.proofs.AlphaLaws.{truncation_found, truncation_refused}
 use Rattle.records.specs.Fields.{fill_bytes, nothing_filled}
-use Rattle.records.proofs.FieldLaws.{hash_count_lem, number_refused, number-fixed}
+use Rattle.records.proofs.FieldLaws.{hash_count_lem, number_refused, number_fixed}
 use borrow.Author.Rules.{rules}
 use Rattle.records.proofs.fields.write_number.Statement.{statement}
 use Rattle.records.proofs.fields.write_number.Tie as tie
@@ -74,7 +74,7 @@ returns_3 c =
     let kind = sym (ap (λ (im : Image). im.exponential) same) ∙ t.before.if1.false in
     c.before.before.write-fixed.ensures
     ∙ (λ i. written a.buffer.now a.at (fill_bytes a.marks (same i) (found.same i) nothing_filled field))
-    ∙ ap (written a.buffer.now a.at) (sym (number-fixed a.marks field a.number to kind))
+    ∙ ap (written a.buffer.now a.at) (sym (number_fixed a.marks field a.number to kind))
 
 pub write_number_spec : {M : Type 1} → statement M
 write_number_spec =

@@ -7,7 +7,7 @@ use lib.ListN.{length, length-set}
 use lib.Seq.{paste, paste-zero}
 use Rattle.codec.specs.Lists.{filled}
 use Rattle.codec.specs.Alpha.{blank_byte}
-use Rattle.codec.proofs.ListLaws.{filled-length, filled_at}
+use Rattle.codec.proofs.ListLaws.{filled_length, filled_at}
 use Rattle.codec.proofs.BufferLaws.{written_pasted}
 use Rattle.records.proofs.WritingLaws.{paste_turn}
 use Rattle.records.proofs.fields.write_text.Statement.{statement}
@@ -45,7 +45,7 @@ loop_again c =
     let l = c.before.before.loop in
     let s = c.before.before.before.before.before in
     let a = s.args in
-    let size = filled-length blank_byte a.size a.text.now in (
+    let size = filled_length blank_byte a.size a.text.now in (
       omega arith,
       length-set l.buffer (a.at + l.j) c.text-byte.result ∙ l.invariant.1,
       paste_turn (filled a.size blank_byte a.text.now) a.buffer.now l.buffer a.at l.j (omega (arith, s.requires)) (omega arith) l.invariant.2
@@ -59,7 +59,7 @@ returns : tie.Need-returns invariant_loop decreases_loop
 returns c =
     let l = c.before.loop in
     let a = c.before.before.before.before.args in
-    let size = filled-length blank_byte a.size a.text.now in
+    let size = filled_length blank_byte a.size a.text.now in
     l.invariant.2 ∙ written_pasted a.buffer.now a.at (filled a.size blank_byte a.text.now) l.j (omega arith)
 
 pub write_text_spec : {M : Type 1} → statement M

@@ -4,7 +4,7 @@ use native.Mathlib.Omega.{arith}
 use borrow.Author.Rules.{rules}
 use Rattle.codec.proofs.ContentsLaws.{told_refused}
 use Rattle.records.specs.Files.{read_file}
-use Rattle.records.proofs.FileLaws.{shown-refused, read-within, read_some, read_none, read-shown, read_inside}
+use Rattle.records.proofs.FileLaws.{shown_refused, read_within, read_some, read_none, read-shown, read_inside}
 use Rattle.records.proofs.files.show.Statement.{statement}
 use Rattle.records.proofs.files.show.Tie as tie
 
@@ -19,7 +19,7 @@ returns c =
     let f = c.before.before.before in
     let a = f.before.before.args in
     sym
-    (shown-refused _ a.index
+    (shown_refused _ a.index
     (told_refused (read_file a.file.now) f.read-file.result _ f.read-file.ensures c.before.answer.given.1))
 
 enum_told : tie.Need-enum-told
@@ -28,7 +28,7 @@ enum_told c = search rules
 sub_if1 : tie.Need-overflow-sub-if1
 sub_if1 c =
     let f = c.before.before.before in
-    read-within f.before.before.args.file.now f.read-file.result f.read-file.ensures c.before.enum_told.given.1
+    read_within f.before.before.args.file.now f.read-file.result f.read-file.ensures c.before.enum_told.given.1
 
 div_if1 : tie.Need-nonzero-div-if1
 div_if1 c =

@@ -4,7 +4,7 @@ use borrow.Author.Rules.{rules}
 use lib.ListN.{length}
 use Rattle.codec.specs.Contents.{read_alone}
 use Rattle.codec.proofs.ContentsLaws.{told_read, told_refused}
-use Rattle.records.proofs.FileLaws.{starting-refused, starting-short, starting-done, refuses-file, writes-file}
+use Rattle.records.proofs.FileLaws.{starting_refused, starting_short, starting_done, refuses_file, writes_file}
 use Rattle.records.proofs.files.write_contents.Statement.{statement}
 use Rattle.records.proofs.files.write_contents.Tie as tie
 
@@ -18,8 +18,8 @@ returns : tie.Need-returns
 returns c =
     let f = c.before.before.before in
     let a = f.before.before.before.args in
-    refuses-file a.contents.now a.buffer.now
-    (starting-refused _ _
+    refuses_file a.contents.now a.buffer.now
+    (starting_refused _ _
     (told_refused (read_alone a.contents.now) f.read-alone.result _ f.read-alone.ensures c.before.answer.given.1))
 
 enum_told : tie.Need-enum-told
@@ -30,8 +30,8 @@ returns_2 c =
     let f = c.before.before.before in
     let a = f.before.before.before.args in
     let t = told_read (read_alone a.contents.now) f.read-alone.result f.read-alone.ensures c.before.enum_told.given.1 in
-    refuses-file a.contents.now a.buffer.now
-    (starting-short a.contents.now (length a.buffer.now) t.reads c.if1.true)
+    refuses_file a.contents.now a.buffer.now
+    (starting_short a.contents.now (length a.buffer.now) t.reads c.if1.true)
 
 write_bytes_requires : tie.Need-write-bytes-requires
 write_bytes_requires c κs = search rules
@@ -45,7 +45,7 @@ returns_3 c =
     let f = t.before.before in
     let a = f.before.before.before.args in
     let told = told_read (read_alone a.contents.now) f.read-alone.result f.read-alone.ensures t.enum_told.given.1 in
-    writes-file a.contents.now a.buffer.now (starting-done a.contents.now (length a.buffer.now) told.reads (omega arith))
+    writes_file a.contents.now a.buffer.now (starting_done a.contents.now (length a.buffer.now) told.reads (omega arith))
     c.before.before.write_bytes.ensures
 
 pub write_contents_spec : {M : Type 1} → statement M

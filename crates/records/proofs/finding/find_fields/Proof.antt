@@ -14,7 +14,7 @@ use Rattle.records.specs.declared.finding.Field.{Field}
 use Rattle.records.specs.Scanning.{field_length}
 use Rattle.records.specs.Finding.{field_of}
 use Rattle.records.proofs.CheckLaws.{field_inside}
-use Rattle.records.proofs.FindLaws.{Finding, finding_starts, finding_skips, finding-literal, finding-many, finding_turn, found_refused, found_listed, scanned_length, scanned_hashes, scanned_few}
+use Rattle.records.proofs.FindLaws.{Finding, finding_starts, finding_skips, finding_literal, finding_many, finding_turn, found_refused, found_listed, scanned_length, scanned_hashes, scanned_few}
 use Rattle.records.proofs.finding.find_fields.Statement.{statement}
 use Rattle.records.proofs.finding.find_fields.Tie as tie
 
@@ -55,7 +55,7 @@ loop_again c =
     let n = s.before in
     let l = n.before.before in
     let line = l.before.before.before.args.line.now in
-    finding-literal (finding_skips l.loop.invariant (omega arith) n.next_start.ensures) n.next_start.ensures.inside
+    finding_literal (finding_skips l.loop.invariant (omega arith) n.next_start.ensures) n.next_start.ensures.inside
     (sym (scanned_length (drop n.next_start.result line) s.scan-field.ensures) ∙ c.if1.true)
 
 add_if2 : tie.Need-overflow-add-if2 invariant_loop decreases_loop
@@ -77,7 +77,7 @@ returns c =
     let some : field_length (drop place line) ≡ 0 → ⊥ =
     λ z. e.if1.false (scanned_length (drop place line) s.scan-field.ensures ∙ z) in
     found_refused
-    (finding-many (finding_skips l.loop.invariant (omega arith) n.next_start.ensures) some
+    (finding_many (finding_skips l.loop.invariant (omega arith) n.next_start.ensures) some
     (omega (arith, scanned_hashes (drop place line) s.scan-field.ensures, c.if2.true)))
 
 field_at_requires : tie.Need-field-at-requires invariant_loop decreases_loop

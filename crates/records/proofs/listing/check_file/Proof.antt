@@ -17,7 +17,7 @@ use Rattle.records.proofs.LinesLaws.{
   checking-inside,
   checking-stops,
   checking-turns,
-  checking-ends,
+  checking_ends,
 }
 use Rattle.records.proofs.listing.check_file.Statement.{statement}
 use Rattle.records.proofs.listing.check_file.Tie as tie
@@ -111,7 +111,7 @@ returns_3 c =
     let l = c.before in
     let f = held l.before in
     let r = l.before.before.before in
-    r.read-file.ensures ∙ ap contents_of (f.reads ∙ sym (checking-ends (l.loop.invariant f) f.some c.loop-test.false))
+    r.read-file.ensures ∙ ap contents_of (f.reads ∙ sym (checking_ends (l.loop.invariant f) f.some c.loop-test.false))
 
 pub check_file_spec : {M : Type 1} → statement M
 check_file_spec =

@@ -4,7 +4,7 @@ use mathlib.Core.Path.{sym}
 use native.Mathlib.Omega.{arith}
 use borrow.Author.Rules.{rules}
 use borrow.Author.Tests.{lt-ltb}
-use Rattle.records.proofs.ReportLaws.{longer-test}
+use Rattle.records.proofs.ReportLaws.{longer_test}
 use Rattle.records.proofs.listing.is_longer.Statement.{statement}
 use Rattle.records.proofs.listing.is_longer.Tie as tie
 
@@ -15,7 +15,7 @@ div_result : tie.Need-nonzero-div-result
 div_result c = search rules
 
 returns_2 : tie.Need-returns-2
-returns_2 c = let a = c.before.args in longer-test a.lines a.length a.others a.room c.before.requires (omega arith)
+returns_2 c = let a = c.before.args in longer_test a.lines a.length a.others a.room c.before.requires (omega arith)
 
 pub is_longer_spec : {M : Type 1} → statement M
 is_longer_spec = tie.close (tie.spec returns div_result returns_2)

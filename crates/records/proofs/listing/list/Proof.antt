@@ -2,7 +2,7 @@
 use borrow.Author.Rules.{rules}
 use lib.ListN.{length}
 use Rattle.codec.proofs.ContentsLaws.{told_refused}
-use Rattle.codec.proofs.AlphaLaws.{refused-answers}
+use Rattle.codec.proofs.AlphaLaws.{refused_answers}
 use Rattle.records.specs.Listing.{checked_file, listed}
 use Rattle.records.proofs.LinesLaws.{listed_made}
 use Rattle.records.proofs.ListingLaws.{listed_refused}
@@ -21,7 +21,7 @@ returns c =
     let f = n.before.before in
     let a = f.before.before.before.args in
     let r = f.check-file.result in
-    refused-answers (listed a.file.now (length a.buffer.now)) a.buffer.now
+    refused_answers (listed a.file.now (length a.buffer.now)) a.buffer.now
     (listed_refused a.file.now (length a.buffer.now)
     (told_refused (checked_file a.file.now) r n.answer.given.0.0 f.check-file.ensures n.answer.given.1))
 

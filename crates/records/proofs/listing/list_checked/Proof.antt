@@ -7,10 +7,10 @@ use native.Mathlib.Omega.{arith}
 use borrow.Author.Rules.{rules}
 use lib.ListN.{length}
 use Rattle.codec.proofs.BufferLaws.{written_stored}
-use Rattle.codec.proofs.AlphaLaws.{refused-answers, done-answers}
+use Rattle.codec.proofs.AlphaLaws.{refused_answers, done_answers}
 use Rattle.records.specs.Listing.{lines_of, listed}
 use Rattle.records.proofs.WritingLaws.{decimal_few}
-use Rattle.records.proofs.ReportLaws.{within-some}
+use Rattle.records.proofs.ReportLaws.{within_some}
 use Rattle.records.proofs.LinesLaws.{ListedHeld, listed_held}
 use Rattle.records.proofs.ListingLaws.{
   parts_length,
@@ -18,8 +18,8 @@ use Rattle.records.proofs.ListingLaws.{
   records_of,
   first_line,
   last_line,
-  listed-parts,
-  listed-sizes,
+  listed_parts,
+  listed_sizes,
   measured-long,
   measured-short,
 }
@@ -50,14 +50,14 @@ fits c =
     let g = c.before in
     let d = g.before.before in
     let s = entry c in
-    measured-short (held s) (length s.args.buffer.now) d.before.decimal-length.ensures d.decimal-length2.ensures
+    measured-short (held s) (length s.args.buffer.now) d.before.decimal_length.ensures d.decimal-length2.ensures
     g.is-longer.ensures c.if1.false
 
 sub_records : tie.Need-overflow-sub-records
-sub_records c = (listed-sizes (held c.before.before.before.before)).2
+sub_records c = (listed_sizes (held c.before.before.before.before)).2
 
 div_records : tie.Need-nonzero-div-records
-div_records c = (listed-sizes (held c.before.before.before.before.before)).0
+div_records c = (listed_sizes (held c.before.before.before.before.before)).0
 
 mul_others : tie.Need-overflow-mul-others
 mul_others c = search rules
@@ -68,7 +68,7 @@ decimal_length_requires c κs = search rules
 add_others : tie.Need-overflow-add-others
 add_others c =
     let s = c.before.before.before.before.before.before in
-    omega (arith, c.decimal-length.ensures, decimal_few s.args.table.images.count)
+    omega (arith, c.decimal_length.ensures, decimal_few s.args.table.images.count)
 
 decimal_length_requires_2 : tie.Need-decimal-length-requires-2
 decimal_length_requires_2 c κs = search rules
@@ -78,17 +78,17 @@ add_others_2 c =
     let a = c.before.before.before.before.before.before.before.args in
     omega (
       arith,
-      c.before.decimal-length.ensures,
+      c.before.decimal_length.ensures,
       c.decimal-length2.ensures,
       decimal_few a.table.images.count,
       decimal_few (records_of a.file.now a.table),
     )
 
 sub_is_longer : tie.Need-overflow-sub-is-longer
-sub_is_longer c = omega (arith, (listed-sizes (held c.before.before.before.before.before.before.before.before)).1)
+sub_is_longer c = omega (arith, (listed_sizes (held c.before.before.before.before.before.before.before.before)).1)
 
 is_longer_requires : tie.Need-is-longer-requires
-is_longer_requires c κs = omega (arith, (listed-sizes (held c.before.before.before.before.before.before.before.before)).1)
+is_longer_requires c κs = omega (arith, (listed_sizes (held c.before.before.before.before.before.before.before.before)).1)
 
 no_room_requires : tie.Need-no-room-requires
 no_room_requires c κs = search rules
@@ -100,9 +100,9 @@ returns c =
     let s = d.before.before.before.before.before.before.before in
     let a = s.args in
     let long =
-    measured-long (held s) (length a.buffer.now) d.before.decimal-length.ensures d.decimal-length2.ensures
+    measured-long (held s) (length a.buffer.now) d.before.decimal_length.ensures d.decimal-length2.ensures
     g.is-longer.ensures c.before.if1.true in
-    let found = refused-answers (listed a.file.now (length a.buffer.now)) a.buffer.now long in
+    let found = refused_answers (listed a.file.now (length a.buffer.now)) a.buffer.now long in
     (c.no_room.ensures ∙ found.0, found.1)
 
 slice_aggregate_write_count : tie.Need-slice-aggregate-write-count
@@ -147,7 +147,7 @@ returns_2 c =
     let text = first s ++ (lines s ++ last s) in
     let long = parts_length (first s) (lines s) (last s) in
     let room : length text ≤ length b = omega (arith, fits e, long) in
-    done-answers (listed s.args.file.now (length b)) b (listed-parts (held s) (length b) ∙ within-some (length b) text room)
+    done_answers (listed s.args.file.now (length b)) b (listed_parts (held s) (length b) ∙ within_some (length b) text room)
     (omega (arith, long, w.write-count.ensures.0, v.write-records.ensures.0, x.write-count2.ensures.0))
     (parts_written b (first s) (lines s) (last s) room w.write-count.ensures.0 v.write-records.ensures.0
     w.write-count.ensures.1 v.write-records.ensures.1 x.write-count2.ensures.1

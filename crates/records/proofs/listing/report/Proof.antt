@@ -7,7 +7,7 @@ use Rattle.codec.proofs.ContentsLaws.{told_refused}
 use Rattle.records.specs.Listing.{checked_file, Listed}
 use Rattle.records.proofs.ReportLaws.{passed_on}
 use Rattle.records.proofs.LinesLaws.{listed_held, listed_made}
-use Rattle.records.proofs.ListingLaws.{report-long, report-refused, report-same}
+use Rattle.records.proofs.ListingLaws.{report_long, report-refused, report-same}
 use Rattle.records.proofs.listing.report.Statement.{statement}
 use Rattle.records.proofs.listing.report.Tie as tie
 
@@ -31,7 +31,7 @@ returns c =
     let w = c.before.before in
     let t = w.before.before in
     let a = t.before.before.before.args in
-    let prints = report-long a.input.now t.if1.true in
+    let prints = report_long a.input.now t.if1.true in
     passed_on (ap (within (length a.buffer.now)) (sym prints)) a.buffer.now w.write-refusal.ensures
 
 check_file_requires : tie.Need-check-file-requires

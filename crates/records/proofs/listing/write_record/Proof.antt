@@ -17,19 +17,19 @@ use Rattle.records.proofs.RecordLaws.{
   Texting,
   Separated,
   texting_starts,
-  texting-kept,
-  texting-room,
-  texting-turns,
-  texting-ends,
+  texting_kept,
+  texting_room,
+  texting_turns,
+  texting_ends,
   separated_first,
-  separated-next,
-  separated-kept,
-  separated-room,
-  texts-long,
-  text-under,
+  separated_next,
+  separated_kept,
+  separated_room,
+  texts_long,
+  text_under_lem,
   part_given,
-  wrote-length,
-  wrote-some,
+  wrote_length,
+  wrote_some,
 }
 use Rattle.records.proofs.WritingLaws.{part_behind, part_written}
 use Rattle.records.proofs.listing.write_record.Statement.{statement}
@@ -52,7 +52,7 @@ texts s = given (alpha_texts (take s.args.t1.count s.args.t1.values) (take s.arg
 long : (s : tie.Start invariant_loop decreases_loop) → length (texts s) ≡ s.args.t1.count
 long s =
     let many : length s.args.t1.values ≡ max_columns = sym (length-map s.args.t1.values _) ∙ s.well-formed.0.1.1.0.1.0.1 in
-    texts-long s.args.t1.values s.args.t2.values s.args.t1.count s.requires.1 (omega arith)
+    texts_long s.args.t1.values s.args.t2.values s.args.t1.count s.requires.1 (omega arith)
 
 -- the place of the loop's head, where a blank may stand before a text
 abbrev head : tie.Joined1 invariant_loop decreases_loop → tie.At-loop invariant_loop decreases_loop
@@ -78,7 +78,7 @@ joined c =
     let t = (head c).loop.invariant.1 in
     let room = (entry c).requires.2 in
     ⊎_elim
-    (λ w. separated-next t room w.0.taken w.1 w.2)
+    (λ w. separated_next t room w.0.taken w.1 w.2)
     (λ w. separated_first t room (omega (arith, w.0.left)) w.1 w.2)
     c.if1.branch
 
@@ -88,7 +88,7 @@ further c = omega (arith, long (entry c), c.before.before.before.loop-test.true)
 
 -- there is room for it
 room : (c : tie.Joined1 invariant_loop decreases_loop) → c.if1.out + length (text c) ≤ length c.if1.buffer
-room c = separated-room (joined c) (entry c).requires.2 (further c)
+room c = separated_room (joined c) (entry c).requires.2 (further c)
 
 -- the place where the text's call is made
 abbrev place : tie.After-write-alpha-under invariant_loop decreases_loop → tie.Joined1 invariant_loop decreases_loop
@@ -109,7 +109,7 @@ wrote w =
     (d : Image) (n : Number) → writing_alpha_under (get_or a.t1.values k d) (get_or a.t2.values k n) (length (part j)) ≡ done (text j) =
     λ d n.
     part_given (get_or a.t1.values k d) (get_or a.t2.values k n) j.if1.buffer j.if1.out
-    (text-under a.t1.values a.t2.values a.t1.count s.pre.1 (omega arith) k d n j.before.before.before.loop-test.taken)
+    (text_under_lem a.t1.values a.t2.values a.t1.count s.pre.1 (omega arith) k d n j.before.before.before.loop-test.taken)
     (room j) in
     let e = w.write-alpha-under.ensures in
     (e.0 ∙ ap sized (same _ _), e.1 ∙ ap (λ (x : Answer (List ℕ)). stored_in x (part j)) (same _ _))
@@ -130,14 +130,14 @@ element_copy_out_number : tie.Need-element-copy-out-number invariant_loop decrea
 element_copy_out_number c = omega arith
 
 slice_write_buffer : tie.Need-slice-write-buffer invariant_loop decreases_loop
-slice_write_buffer c = let l = c.before.before.before.before in texting-room l.loop.invariant.1 l.before.before.requires.2
+slice_write_buffer c = let l = c.before.before.before.before in texting_room l.loop.invariant.1 l.before.before.requires.2
 
 add_out : tie.Need-overflow-add-out invariant_loop decreases_loop
 add_out c =
     let l = c.before.before.before.before in
     let t = l.loop.invariant.1 in
     let s = l.before.before in
-    omega (arith, texting-room t s.requires.2, texting-kept t s.requires.2)
+    omega (arith, texting_room t s.requires.2, texting_kept t s.requires.2)
 
 sub_write_alpha_under : tie.Need-overflow-sub-write-alpha-under invariant_loop decreases_loop
 sub_write_alpha_under c = omega (arith, room c.before)
@@ -159,8 +159,8 @@ add_out_2 c =
     let w = c.before.before.before.before.before in
     let j = place w in
     let s = entry j in
-    let size = wrote-length w.write-alpha-under.result (text j) (wrote w).0 c.before.size.given.1 in
-    omega (arith, size, room j, separated-kept (joined j) s.pre.2 (further j), s.good)
+    let size = wrote_length w.write-alpha-under.result (text j) (wrote w).0 c.before.size.given.1 in
+    omega (arith, size, room j, separated_kept (joined j) s.pre.2 (further j), s.good)
 
 enum_told : tie.Need-enum-told invariant_loop decreases_loop
 enum_told c = search rules
@@ -178,32 +178,32 @@ loop_again c =
     let r = w.write-alpha-under.result in
     let ends : c.match.out ≡ j.if1.out + length (text j) =
     ⊎_elim
-    (λ v. v.3 ∙ ap (λ (n : ℕ). j.if1.out + n) (wrote-length r (text j) (wrote w).0 v.1.given.1))
-    (λ v. wrote-some r (text j) (wrote w).0 v.1.given.1)
+    (λ v. v.3 ∙ ap (λ (n : ℕ). j.if1.out + n) (wrote_length r (text j) (wrote w).0 v.1.given.1))
+    (λ v. wrote_some r (text j) (wrote w).0 v.1.given.1)
     c.match.branch in (
       omega arith,
-      texting-turns (joined j) (entry j).pre.2 (further j) ends (part_written j.if1.buffer j.if1.out (text j) (wrote w).1),
+      texting_turns (joined j) (entry j).pre.2 (further j) ends (part_written j.if1.buffer j.if1.out (text j) (wrote w).1),
     )
 
 slice_write_buffer_2 : tie.Need-slice-write-buffer-2 invariant_loop decreases_loop
-slice_write_buffer_2 c = let l = c.before in texting-room l.loop.invariant.1 l.before.before.requires.2
+slice_write_buffer_2 c = let l = c.before in texting_room l.loop.invariant.1 l.before.before.requires.2
 
 add_result : tie.Need-overflow-add-result invariant_loop decreases_loop
 add_result c =
     let t = c.before.loop.invariant.1 in
     let s = c.before.before.before in
-    omega (arith, texting-room t s.requires.2, texting-kept t s.requires.2)
+    omega (arith, texting_room t s.requires.2, texting_kept t s.requires.2)
 
 same_length : tie.Need-same-length invariant_loop decreases_loop
 same_length c =
     let l = c.before in
-    length-set l.loop.buffer l.loop.out 10 ∙ texting-kept l.loop.invariant.1 l.before.before.requires.2
+    length-set l.loop.buffer l.loop.out 10 ∙ texting_kept l.loop.invariant.1 l.before.before.requires.2
 
 returns : tie.Need-returns invariant_loop decreases_loop
 returns c =
     let l = c.before in
     let s = l.before.before in
-    texting-ends l.loop.invariant.1 s.requires.2 (omega (arith, long s, l.loop.invariant.0, c.loop-test.false))
+    texting_ends l.loop.invariant.1 s.requires.2 (omega (arith, long s, l.loop.invariant.0, c.loop-test.false))
 
 pub write_record_spec : {M : Type 1} → statement M
 write_record_spec =

@@ -4,7 +4,7 @@ use Prim.Native.Nat.{ℕ, ◌+◌, ◌-◌, ◌≤◌}
 use mathlib.Core.Path.{ap, ◌∙◌}
 use native.Mathlib.Omega.{arith}
 use lib.ListN.{length}
-use Rattle.codec.proofs.BufferLaws.{written-length}
+use Rattle.codec.proofs.BufferLaws.{written_length}
 use Rattle.records.specs.Listing.{lines_of}
 use Rattle.records.proofs.LinesLaws.{
   ListedHeld,
@@ -15,8 +15,8 @@ use Rattle.records.proofs.LinesLaws.{
   lining-room,
   lining-turns,
   lining_ends,
-  front-has,
-  front-line,
+  front_has,
+  front_line,
 }
 use Rattle.records.proofs.listing.write_records.Statement.{statement}
 use Rattle.records.proofs.listing.write_records.Tie as tie
@@ -67,9 +67,9 @@ write_record_requires c κs =
     let s = entry l in
     let h = held s in
     let more = i.loop-test.true in
-    let line = front-line h (lines l) more u.read-body.ensures in (
+    let line = front_line h (lines l) more u.read-body.ensures in (
       omega (arith, h.held.count, h.held.sound.high),
-      front-has h (lines l) more u.read-body.ensures,
+      front_has h (lines l) more u.read-body.ensures,
       omega (arith, ap length line, lining-room (lines l) more s.pre.1),
     )
 
@@ -90,7 +90,7 @@ loop_again c h =
     let l = i.before in
     let v = l.loop.invariant h in
     let more = i.loop-test.true in
-    lining-turns v more (entry l).requires.1 (front-line h v more u.read-body.ensures) w.write-record.ensures.0
+    lining-turns v more (entry l).requires.1 (front_line h v more u.read-body.ensures) w.write-record.ensures.0
     w.write-record.ensures.1 (ap (λ (k : ℕ). l.loop.at + k) h.held.body)
 
 same_length : tie.Need-same-length invariant_loop decreases_loop
@@ -99,7 +99,7 @@ same_length c =
     let s = entry l in
     let a = s.args in
     let e = lining_ends (lines l) (held s).lists.some c.loop-test.false in
-    ap length e.1 ∙ written-length a.buffer.now a.from (lines_of a.file.now) s.pre.1
+    ap length e.1 ∙ written_length a.buffer.now a.from (lines_of a.file.now) s.pre.1
 
 returns : tie.Need-returns invariant_loop decreases_loop
 returns c = let l = c.before in lining_ends (lines l) (held (entry l)).lists.some c.loop-test.false

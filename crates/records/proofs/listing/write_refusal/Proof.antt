@@ -6,12 +6,12 @@ use native.Mathlib.Omega.{arith}
 use lib.ListN.{length}
 use borrow.Author.Rules.{rules}
 use Rattle.codec.specs.Answers.{within}
-use Rattle.codec.proofs.BufferLaws.{written-length, written_stored}
-use Rattle.codec.proofs.AlphaLaws.{refused-answers, done-answers}
+use Rattle.codec.proofs.BufferLaws.{written_length, written_stored}
+use Rattle.codec.proofs.AlphaLaws.{refused_answers, done_answers}
 use Rattle.records.specs.Listing.{refusal_line}
 use Rattle.records.proofs.WritingLaws.{decimal_few}
-use Rattle.records.proofs.ReportLaws.{refusal-length, refusal-place-room, refusal-end-room, refusal-written}
-use Rattle.records.proofs.ReportLaws.{within_none, within-some}
+use Rattle.records.proofs.ReportLaws.{refusal_length, refusal-place-room, refusal-end-room, refusal-written}
+use Rattle.records.proofs.ReportLaws.{within_none, within_some}
 use Rattle.records.proofs.listing.write_refusal.Statement.{statement}
 use Rattle.records.proofs.listing.write_refusal.Tie as tie
 
@@ -19,10 +19,10 @@ decimal_length_requires : tie.Need-decimal-length-requires
 decimal_length_requires c κs = search rules
 
 add_blank : tie.Need-overflow-add-blank
-add_blank c = omega (arith, c.decimal-length.ensures, decimal_few c.before.before.before.args.number)
+add_blank c = omega (arith, c.decimal_length.ensures, decimal_few c.before.before.before.args.number)
 
 add_end : tie.Need-overflow-add-end
-add_end c = omega (arith, c.decimal-length.ensures, decimal_few c.before.before.before.args.number)
+add_end c = omega (arith, c.decimal_length.ensures, decimal_few c.before.before.before.args.number)
 
 decimal_length_requires_2 : tie.Need-decimal-length-requires-2
 decimal_length_requires_2 c κs = search rules
@@ -31,7 +31,7 @@ add_end_2 : tie.Need-overflow-add-end-2
 add_end_2 c =
     let n = c.before in
     let a = n.before.before.before.args in
-    omega (arith, n.decimal-length.ensures, decimal_few a.number, c.decimal-length2.ensures, decimal_few a.place)
+    omega (arith, n.decimal_length.ensures, decimal_few a.number, c.decimal-length2.ensures, decimal_few a.place)
 
 no_room_requires : tie.Need-no-room-requires
 no_room_requires c κs = search rules
@@ -43,9 +43,9 @@ returns c =
     let a = n.before.before.before.args in
     let line = refusal_line a.number a.place in
     let long : length a.buffer.now < length line =
-    omega (arith, c.before.if1.true, refusal-length a.number a.place, n.decimal-length.ensures, p.decimal-length2.ensures) in
+    omega (arith, c.before.if1.true, refusal_length a.number a.place, n.decimal_length.ensures, p.decimal-length2.ensures) in
     let room = length a.buffer.now in
-    let found = refused-answers (within room line) a.buffer.now (within_none room line long) in
+    let found = refused_answers (within room line) a.buffer.now (within_none room line long) in
     (c.no_room.ensures ∙ found.0, found.1)
 
 write_bytes_requires : tie.Need-write-bytes-requires
@@ -68,7 +68,7 @@ write_decimal_requires_2 c κs =
     let n = m.before in
     let a = n.before.before.before.args in
     refusal-place-room a.number a.place a.buffer.now b.write_bytes.ensures w.write-decimal.ensures
-    n.decimal-length.ensures m.decimal-length2.ensures (omega arith)
+    n.decimal_length.ensures m.decimal-length2.ensures (omega arith)
 
 slice_write_buffer_2 : tie.Need-slice-write-buffer-2
 slice_write_buffer_2 c =
@@ -79,7 +79,7 @@ slice_write_buffer_2 c =
     let n = m.before in
     let a = n.before.before.before.args in
     refusal-end-room a.number a.place a.buffer.now b.write_bytes.ensures w.write-decimal.ensures
-    n.decimal-length.ensures m.decimal-length2.ensures (omega arith) p.write-decimal2.ensures
+    n.decimal_length.ensures m.decimal-length2.ensures (omega arith) p.write-decimal2.ensures
 
 add_t10 : tie.Need-overflow-add-t10
 add_t10 c = search rules
@@ -93,10 +93,10 @@ same_length c =
     let n = m.before in
     let a = n.before.before.before.args in
     let line = refusal_line a.number a.place in
-    let size = refusal-length a.number a.place in
+    let size = refusal_length a.number a.place in
     ap length (refusal-written a.number a.place a.buffer.now b.write_bytes.ensures w.write-decimal.ensures
-    n.decimal-length.ensures m.decimal-length2.ensures (omega arith) p.write-decimal2.ensures)
-    ∙ written-length a.buffer.now 0 line (omega (arith, n.decimal-length.ensures, m.decimal-length2.ensures))
+    n.decimal_length.ensures m.decimal-length2.ensures (omega arith) p.write-decimal2.ensures)
+    ∙ written_length a.buffer.now 0 line (omega (arith, n.decimal_length.ensures, m.decimal-length2.ensures))
 
 returns_2 : tie.Need-returns-2
 returns_2 c =
@@ -107,12 +107,12 @@ returns_2 c =
     let n = m.before in
     let a = n.before.before.before.args in
     let line = refusal_line a.number a.place in
-    let size : length line ≡ 8 + n.decimal-length.result + 1 + m.decimal-length2.result + 1 =
-    omega (arith, refusal-length a.number a.place, n.decimal-length.ensures, m.decimal-length2.ensures) in
+    let size : length line ≡ 8 + n.decimal_length.result + 1 + m.decimal-length2.result + 1 =
+    omega (arith, refusal_length a.number a.place, n.decimal_length.ensures, m.decimal-length2.ensures) in
     let room = length a.buffer.now in
-    done-answers (within room line) a.buffer.now (within-some room line (omega arith)) size
+    done_answers (within room line) a.buffer.now (within_some room line (omega arith)) size
     (refusal-written a.number a.place a.buffer.now b.write_bytes.ensures w.write-decimal.ensures
-    n.decimal-length.ensures m.decimal-length2.ensures (omega arith) p.write-decimal2.ensures
+    n.decimal_length.ensures m.decimal-length2.ensures (omega arith) p.write-decimal2.ensures
     ∙ written_stored a.buffer.now line)
 
 pub write_refusal_spec : {M : Type 1} → statement M

@@ -9,7 +9,7 @@ use borrow.Author.Rules.{rules}
 use Rattle.decimal.specs.Answer.{check_meaning}
 use Rattle.records.specs.Printing.{max_elements, check_element, element_list}
 use Rattle.records.proofs.PlaceLaws.{zero_element, elements_count, elements_at}
-use Rattle.records.proofs.MeasureLaws.{Measuring, measuring_starts, measuring-refused, listed_some, measuring-again, measuring-field, measuring-field-small, spill_once, measuring-turn, measuring-small, measuring-ends, measuring-over, measuring-end-small, measuring-over-small}
+use Rattle.records.proofs.MeasureLaws.{Measuring, measuring_starts, measuring_refused, listed_some, measuring_again, measuring_field, measuring_field_small, spill_once, measuring_turn, measuring_small, measuring_ends, measuring_over, measuring_end_small, measuring_over_small}
 use Rattle.records.proofs.printing.measure.Statement.{statement}
 use Rattle.records.proofs.printing.measure.Tie as tie
 
@@ -34,7 +34,7 @@ add_bytes_2 : tie.Need-overflow-add-bytes-2 invariant_loop decreases_loop
 add_bytes_2 c =
     let l = c.before.before in
     let a = l.before.before in
-    omega (arith, a.requires.0.short, measuring-small a.requires.0 a.requires.1 l.loop.invariant)
+    omega (arith, a.requires.0.short, measuring_small a.requires.0 a.requires.1 l.loop.invariant)
 
 loop_less : tie.Need-loop-smaller invariant_loop decreases_loop
 loop_less c =
@@ -50,7 +50,7 @@ loop_again c =
     let a = l.before.before in
     let more : l.loop.used < length (element_list a.args.t3 a.args.count) =
     omega (arith, elements_count a.args.t3 a.args.count) in
-    measuring-again a.requires.0 a.requires.1 l.loop.invariant more c.if1.true
+    measuring_again a.requires.0 a.requires.1 l.loop.invariant more c.if1.true
 
 mul_element : tie.Need-overflow-mul-element invariant_loop decreases_loop
 mul_element c =
@@ -80,7 +80,7 @@ returns c =
     let same =
     elements_at a.args.t3 a.args.count l.loop.used zero_element zero_element (omega arith) (omega (arith, a.requires.0.few)) in
     λ texts.
-    measuring-refused a.requires.0 a.requires.1 l.loop.invariant zero_element more
+    measuring_refused a.requires.0 a.requires.1 l.loop.invariant zero_element more
     (ap (check_element a.args.room l.loop.used) same ∙ sym k.check-element.ensures ∙ ap check_meaning r.refusal.given.1)
     texts
 
@@ -114,7 +114,7 @@ add_end c =
     let n = elements_count a.args.t3 a.args.count in
     let more : l.loop.used < length (element_list a.args.t3 a.args.count) = omega (arith, e.before.loop-test.true) in
     let left : l.loop.next < a.args.t2.count = omega (arith, e.if1.false, l.loop.invariant.within) in
-    let x = measuring-field a.requires.0 a.requires.1 l.loop.invariant left in
+    let x = measuring_field a.requires.0 a.requires.1 l.loop.invariant left in
     omega (arith, x.on.inside, a.requires.0.short)
 
 sub_bytes_2 : tie.Need-overflow-sub-bytes-2 invariant_loop decreases_loop
@@ -126,7 +126,7 @@ sub_bytes_2 c =
     let n = elements_count a.args.t3 a.args.count in
     let more : l.loop.used < length (element_list a.args.t3 a.args.count) = omega (arith, e.before.loop-test.true) in
     let left : l.loop.next < a.args.t2.count = omega (arith, e.if1.false, l.loop.invariant.within) in
-    let x = measuring-field a.requires.0 a.requires.1 l.loop.invariant left in
+    let x = measuring_field a.requires.0 a.requires.1 l.loop.invariant left in
     omega (arith, x.first)
 
 add_bytes_3 : tie.Need-overflow-add-bytes-3 invariant_loop decreases_loop
@@ -138,8 +138,8 @@ add_bytes_3 c =
     let n = elements_count a.args.t3 a.args.count in
     let more : l.loop.used < length (element_list a.args.t3 a.args.count) = omega (arith, e.before.loop-test.true) in
     let left : l.loop.next < a.args.t2.count = omega (arith, e.if1.false, l.loop.invariant.within) in
-    let x = measuring-field a.requires.0 a.requires.1 l.loop.invariant left in
-    omega (arith, measuring-field-small a.requires.0 a.requires.1 l.loop.invariant x more)
+    let x = measuring_field a.requires.0 a.requires.1 l.loop.invariant left in
+    omega (arith, measuring_field_small a.requires.0 a.requires.1 l.loop.invariant x more)
 
 spill_requires : tie.Need-spill-requires invariant_loop decreases_loop
 spill_requires c κs = tt
@@ -153,7 +153,7 @@ add_spilled c =
     let n = elements_count a.args.t3 a.args.count in
     let more : l.loop.used < length (element_list a.args.t3 a.args.count) = omega (arith, e.before.loop-test.true) in
     let left : l.loop.next < a.args.t2.count = omega (arith, e.if1.false, l.loop.invariant.within) in
-    let x = measuring-field a.requires.0 a.requires.1 l.loop.invariant left in
+    let x = measuring_field a.requires.0 a.requires.1 l.loop.invariant left in
     omega (arith, spill_once (get_or a.args.t3 l.loop.used zero_element) x c.spill.ensures, l.loop.invariant.spills.few, a.requires.0.few)
 
 add_next : tie.Need-overflow-add-next invariant_loop decreases_loop
@@ -165,7 +165,7 @@ add_next c =
     let n = elements_count a.args.t3 a.args.count in
     let more : l.loop.used < length (element_list a.args.t3 a.args.count) = omega (arith, e.before.loop-test.true) in
     let left : l.loop.next < a.args.t2.count = omega (arith, e.if1.false, l.loop.invariant.within) in
-    let x = measuring-field a.requires.0 a.requires.1 l.loop.invariant left in
+    let x = measuring_field a.requires.0 a.requires.1 l.loop.invariant left in
     omega (arith, l.loop.invariant.few, a.requires.0.few)
 
 add_used : tie.Need-overflow-add-used invariant_loop decreases_loop
@@ -177,7 +177,7 @@ add_used c =
     let n = elements_count a.args.t3 a.args.count in
     let more : l.loop.used < length (element_list a.args.t3 a.args.count) = omega (arith, e.before.loop-test.true) in
     let left : l.loop.next < a.args.t2.count = omega (arith, e.if1.false, l.loop.invariant.within) in
-    let x = measuring-field a.requires.0 a.requires.1 l.loop.invariant left in
+    let x = measuring_field a.requires.0 a.requires.1 l.loop.invariant left in
     omega (arith, a.requires.0.few)
 
 loop_less_2 : tie.Need-loop-smaller-2 invariant_loop decreases_loop
@@ -189,7 +189,7 @@ loop_less_2 c =
     let n = elements_count a.args.t3 a.args.count in
     let more : l.loop.used < length (element_list a.args.t3 a.args.count) = omega (arith, e.before.loop-test.true) in
     let left : l.loop.next < a.args.t2.count = omega (arith, e.if1.false, l.loop.invariant.within) in
-    let x = measuring-field a.requires.0 a.requires.1 l.loop.invariant left in
+    let x = measuring_field a.requires.0 a.requires.1 l.loop.invariant left in
     omega arith
 
 loop_again_2 : tie.Need-loop-preserved-2 invariant_loop decreases_loop
@@ -201,13 +201,13 @@ loop_again_2 c =
     let n = elements_count a.args.t3 a.args.count in
     let more : l.loop.used < length (element_list a.args.t3 a.args.count) = omega (arith, e.before.loop-test.true) in
     let left : l.loop.next < a.args.t2.count = omega (arith, e.if1.false, l.loop.invariant.within) in
-    let x = measuring-field a.requires.0 a.requires.1 l.loop.invariant left in
+    let x = measuring_field a.requires.0 a.requires.1 l.loop.invariant left in
     let t = y.before.before.before.before in
     let k = t.before.before in
     let long : length a.args.t3 ≡ max_elements = a.well-formed.1.1.0.1.0.1 in
     let same =
     elements_at a.args.t3 a.args.count l.loop.used zero_element zero_element (omega arith) (omega (arith, a.requires.0.few)) in
-    measuring-turn a.requires.0 a.requires.1 l.loop.invariant zero_element (get_or a.args.t3 l.loop.used zero_element) x more e.if1.false same
+    measuring_turn a.requires.0 a.requires.1 l.loop.invariant zero_element (get_or a.args.t3 l.loop.used zero_element) x more e.if1.false same
     (sym k.check-element.ensures ∙ ap check_meaning t.enum_told.given.1) c.spill.ensures
 
 mul_field_2 : tie.Need-overflow-mul-field-2 invariant_loop decreases_loop
@@ -230,7 +230,7 @@ sub_t36 c =
     let t = c.before.before in
     let l = t.before.before in
     let a = l.before.before in
-    let x = measuring-field a.requires.0 a.requires.1 l.loop.invariant t.if2.true in
+    let x = measuring_field a.requires.0 a.requires.1 l.loop.invariant t.if2.true in
     omega (arith, x.first)
 
 add_t40 : tie.Need-overflow-add-t40 invariant_loop decreases_loop
@@ -238,17 +238,17 @@ add_t40 c =
     let t = c.before.before in
     let l = t.before.before in
     let a = l.before.before in
-    let x = measuring-field a.requires.0 a.requires.1 l.loop.invariant t.if2.true in
-    omega (arith, measuring-end-small a.requires.0 a.requires.1 l.loop.invariant x)
+    let x = measuring_field a.requires.0 a.requires.1 l.loop.invariant t.if2.true in
+    omega (arith, measuring_end_small a.requires.0 a.requires.1 l.loop.invariant x)
 
 returns_2 : tie.Need-returns-2 invariant_loop decreases_loop
 returns_2 c =
     let t = c.before.before in
     let l = t.before.before in
     let a = l.before.before in
-    let x = measuring-field a.requires.0 a.requires.1 l.loop.invariant t.if2.true in
+    let x = measuring_field a.requires.0 a.requires.1 l.loop.invariant t.if2.true in
     let n = elements_count a.args.t3 a.args.count in
-    measuring-ends a.requires.0 a.requires.1 l.loop.invariant (omega (arith, t.before.loop-test.false)) x
+    measuring_ends a.requires.0 a.requires.1 l.loop.invariant (omega (arith, t.before.loop-test.false)) x
 
 sub_t41 : tie.Need-overflow-sub-t41 invariant_loop decreases_loop
 sub_t41 c = omega (arith, c.before.before.loop.invariant.at_field.inside)
@@ -257,14 +257,14 @@ add_t42 : tie.Need-overflow-add-t42 invariant_loop decreases_loop
 add_t42 c =
     let l = c.before.before in
     let a = l.before.before in
-    omega (arith, measuring-over-small a.requires.0 a.requires.1 l.loop.invariant c.if2.false)
+    omega (arith, measuring_over_small a.requires.0 a.requires.1 l.loop.invariant c.if2.false)
 
 returns_3 : tie.Need-returns-3 invariant_loop decreases_loop
 returns_3 c =
     let l = c.before.before in
     let a = l.before.before in
     let n = elements_count a.args.t3 a.args.count in
-    measuring-over a.requires.0 a.requires.1 l.loop.invariant (omega arith) c.if2.false
+    measuring_over a.requires.0 a.requires.1 l.loop.invariant (omega arith) c.if2.false
 
 pub measure_spec : {M : Type 1} → statement M
 measure_spec =

@@ -8,11 +8,11 @@ use lib.ListN.{length}
 use Rattle.decimal.specs.Answer.{done, check_meaning}
 use Rattle.records.specs.Printing.{check_fields, check_some, element_list, print_from, printing, print_meaning, LineReady}
 use Rattle.records.specs.Finding.{line_fields}
-use Rattle.records.proofs.CheckLaws.{counts_many, counts_long, counts_done, some_none, some_field, some_refused, line-counts, line-fields, line_some}
+use Rattle.records.proofs.CheckLaws.{counts_many, counts_long, counts_done, some_none, some_field, some_refused, line_counts, line_fields_lem, line_some}
 use Rattle.records.proofs.FindLaws.{counted_some, counted_none}
 use Rattle.records.proofs.PlaceLaws.{elements_count}
-use Rattle.records.proofs.PrintCallLaws.{print_refused, ready_checks, printing-long, printing-done, answer_refused, answer_printed}
-use Rattle.records.proofs.MeasureLaws.{measured-refused, measured-printed}
+use Rattle.records.proofs.PrintCallLaws.{print_refused, ready_checks, printing_long, printing_done, answer_refused, answer_printed}
+use Rattle.records.proofs.MeasureLaws.{measured_refused, measured_printed}
 use Rattle.records.proofs.printing.print.Statement.{statement}
 use Rattle.records.proofs.printing.print.Tie as tie
 
@@ -25,7 +25,7 @@ returns c =
     let es = element_list a.elements a.count in
     let n : length es ≡ a.count = elements_count a.elements a.count in
     print_refused a.line.now es a.texts.now a.buffer.now c.not-printed.ensures
-    (line-counts a.line.now es (length a.texts.now) (counts_many (length es) (length a.line.now) (omega (arith, c.before.if1.true))))
+    (line_counts a.line.now es (length a.texts.now) (counts_many (length es) (length a.line.now) (omega (arith, c.before.if1.true))))
 
 not_printed_requires_2 : tie.Need-not-printed-requires-2
 not_printed_requires_2 c κs = search rules
@@ -37,7 +37,7 @@ returns_2 c =
     let es = element_list a.elements a.count in
     let n : length es ≡ a.count = elements_count a.elements a.count in
     print_refused a.line.now es a.texts.now a.buffer.now c.not-printed2.ensures
-    (line-counts a.line.now es (length a.texts.now)
+    (line_counts a.line.now es (length a.texts.now)
     (counts_long (length es) (length a.line.now) (omega (arith, e.if1.false)) (omega (arith, c.before.if2.true))))
 
 find_fields_requires : tie.Need-find-fields-requires
@@ -56,7 +56,7 @@ returns_3 c =
     let n : length es ≡ a.count = elements_count a.elements a.count in
     let counts = counts_done (length es) (length a.line.now) (omega (arith, e.if1.false)) (omega (arith, f.before.if2.false)) in
     print_refused a.line.now es a.texts.now a.buffer.now refl
-    (line-fields a.line.now es (length a.texts.now) counts (sym f.find-fields.ensures.answered ∙ ap check_meaning k.answer.given.1))
+    (line_fields_lem a.line.now es (length a.texts.now) counts (sym f.find-fields.ensures.answered ∙ ap check_meaning k.answer.given.1))
 
 enum_told : tie.Need-enum-told
 enum_told c = search rules
@@ -128,7 +128,7 @@ returns_5 c =
     let texts = a.texts.now in
     print_refused line es texts a.buffer.now told
     (ready_checks (length texts) ready fields
-    ∙ measured-refused (length texts) texts line es (sym told ∙ c.before.before.measure.ensures texts))
+    ∙ measured_refused (length texts) texts line es (sym told ∙ c.before.before.measure.ensures texts))
 
 not_printed_requires_4 : tie.Need-not-printed-requires-4
 not_printed_requires_4 c κs = search rules
@@ -154,9 +154,9 @@ returns_6 c =
     let ready : LineReady line es = record { few = omega (arith, e.if1.false); short = omega (arith, f.before.if2.false); some = some } in
     let texts = a.texts.now in
     let told = ap print_meaning k.before.decreases.given.1 in
-    let m = measured-printed (length texts) texts line es (sym told ∙ k.before.before.before.measure.ensures texts) in
+    let m = measured_printed (length texts) texts line es (sym told ∙ k.before.before.before.measure.ensures texts) in
     let checked = ready_checks (length texts) ready fields ∙ m.0 in
-    let both = answer_refused (printing line es texts (length a.buffer.now)) 6 0 a.buffer.now (printing-long line es texts (length a.buffer.now) checked (omega (arith, m.1, c.before.if5.true))) in
+    let both = answer_refused (printing line es texts (length a.buffer.now)) 6 0 a.buffer.now (printing_long line es texts (length a.buffer.now) checked (omega (arith, m.1, c.before.if5.true))) in
     (c.not-printed4.ensures ∙ both.0, both.1)
 
 write_lines_requires : tie.Need-write-lines-requires
@@ -180,7 +180,7 @@ write_lines_requires c κs =
     let ready : LineReady line es = record { few = omega (arith, e.if1.false); short = omega (arith, f.before.if2.false); some = some } in
     let texts = a.texts.now in
     let told = ap print_meaning k.before.decreases.given.1 in
-    let m = measured-printed (length texts) texts line es (sym told ∙ k.before.before.before.measure.ensures texts) in
+    let m = measured_printed (length texts) texts line es (sym told ∙ k.before.before.before.measure.ensures texts) in
     let checked = ready_checks (length texts) ready fields ∙ m.0 in
     (record { ready = ready; fields = fields; elements = m.0; fits = omega (arith, m.1, c.before.if5.false) }, listed)
 
@@ -208,10 +208,10 @@ returns_7 c =
     let ready : LineReady line es = record { few = omega (arith, e.if1.false); short = omega (arith, f.before.if2.false); some = some } in
     let texts = a.texts.now in
     let told = ap print_meaning k.before.decreases.given.1 in
-    let m = measured-printed (length texts) texts line es (sym told ∙ k.before.before.before.measure.ensures texts) in
+    let m = measured_printed (length texts) texts line es (sym told ∙ k.before.before.before.measure.ensures texts) in
     let checked = ready_checks (length texts) ready fields ∙ m.0 in
     answer_printed (printing line es texts (length a.buffer.now)) (print_from texts line line es) a.buffer.now
-    (printing-done line es texts (length a.buffer.now) checked (omega (arith, m.1, c.before.before.before.before.if5.false)))
+    (printing_done line es texts (length a.buffer.now) checked (omega (arith, m.1, c.before.before.before.before.if5.false)))
     m.1 m.2 c.before.before.write-lines.ensures
 
 pub print_spec : {M : Type 1} → statement M

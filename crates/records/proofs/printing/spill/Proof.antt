@@ -6,7 +6,7 @@ use Rattle.decimal.specs.Answer.{check_meaning, checked_only}
 use Rattle.decimal.specs.Truncation.{truncation}
 use Rattle.records.specs.Fields.{element_spills}
 use Rattle.records.specs.Marks.{document_marks}
-use Rattle.records.proofs.FieldLaws.{spilled-not, spilled-is}
+use Rattle.records.proofs.FieldLaws.{spilled_not, spilled_is}
 use Rattle.records.proofs.PlaceLaws.{spills_yes, spills_no}
 use Rattle.records.proofs.printing.spill.Statement.{statement}
 use Rattle.records.proofs.printing.spill.Tie as tie
@@ -38,7 +38,7 @@ returns_2 c =
     sym
     (ap (element_spills field) n.1
     ∙ spills_no field n.0.0
-    (spilled-not document_marks field n.0.0
+    (spilled_not document_marks field n.0.0
     (sym (ap check_meaning c.enum-told2.given.1) ∙ f.fit.ensures ∙ ap (λ (im : Image). checked_only (truncation 0 im n.0.0)) e))
     refl)
 
@@ -50,7 +50,7 @@ returns_3 c =
     sym
     (ap (element_spills field) n.1
     ∙ spills_yes field n.0.0
-    (spilled-is document_marks field n.0.0
+    (spilled_is document_marks field n.0.0
     (sym (ap check_meaning c.enum-told3.given.1) ∙ f.fit.ensures ∙ ap (λ (im : Image). checked_only (truncation 0 im n.0.0)) e))
     refl)
 

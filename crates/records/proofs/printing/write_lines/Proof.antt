@@ -11,9 +11,9 @@ use Rattle.decimal.specs.Image.{scanned_image}
 use Rattle.records.specs.Printing.{element_list, check_element}
 use Rattle.records.specs.Finding.{no_field}
 use Rattle.records.proofs.CheckLaws.{element_at}
-use Rattle.records.proofs.FindLaws.{AtField, at_first, no-next, listed_next}
-use Rattle.records.proofs.PlaceLaws.{zero_element, Place, place_starts, place-literals, place-line, place-small, literals_at, elements_count, elements_at, turn-some, turn-ready, turn-place}
-use Rattle.records.proofs.PrintBufferLaws.{Writing, part_size, writing_starts, writing-length, literals_room, writing-literals, element-room, writing-element, line-room, writing-line, writing-ends}
+use Rattle.records.proofs.FindLaws.{AtField, at_first, no_next, listed_next}
+use Rattle.records.proofs.PlaceLaws.{zero_element, Place, place_starts, place_literals, place_line, place_small, literals_at, elements_count, elements_at, turn_some, turn_ready, turn_place}
+use Rattle.records.proofs.PrintBufferLaws.{Writing, part_size, writing_starts, writing_length, literals_room, writing_literals, element_room, writing_element, line_room, writing_line, writing_ends}
 use Rattle.records.proofs.MeasureLaws.{listed_some}
 use Rattle.records.proofs.printing.write_lines.Statement.{statement}
 use Rattle.records.proofs.printing.write_lines.Tie as tie
@@ -133,7 +133,7 @@ add_out c =
     let n = elements_count a.args.t3 a.args.count in
     let few : l.loop.next < 65 = omega (arith, l.loop.invariant.3, p.within, a.requires.0.ready.few) in
     let x = listed_next no_field a.requires.1 l.loop.invariant.1 y.before.before.before.loop-test.true few in
-    omega (arith, place-small (place-literals p x.first) a.requires.0.ready)
+    omega (arith, place_small (place_literals p x.first) a.requires.0.ready)
 
 add_end : tie.Need-overflow-add-end invariant_loop decreases_loop invariant_lines decreases_lines
 add_end c =
@@ -204,9 +204,9 @@ write_element_requires c κs =
     let start = (get_or a.args.t2.fields l.loop.next no_field).start in
     let size = (get_or a.args.t2.fields l.loop.next no_field).length in
     let whole : size ≡ start + size - start = omega arith in
-    let w2 = writing-literals w p x.first e.before.before.before.write_bytes.ensures in
-    let fits = element-room w2 (place-literals p x.first) used x.found (turn-some p x.first more x.found) in (
-      turn-ready p x.first more x.found a.requires.0.fields l.loop.invariant.1.reached,
+    let w2 = writing_literals w p x.first e.before.before.before.write_bytes.ensures in
+    let fits = element_room w2 (place_literals p x.first) used x.found (turn_some p x.first more x.found) in (
+      turn_ready p x.first more x.found a.requires.0.fields l.loop.invariant.1.reached,
       x.image_read ∙ ap (λ (k : ℕ). scanned_image (take k (drop start a.args.line.now))) whole,
       ap (check_element (length a.args.texts.now) 0) (sym same)
           ∙ element_at (length a.args.texts.now) (element_list a.args.t3 a.args.count) a.requires.0.elements l.loop.used zero_element used,
@@ -225,7 +225,7 @@ add_out_2 c =
     let x = listed_next no_field a.requires.1 l.loop.invariant.1 y.before.before.before.loop-test.true few in
     let used : l.loop.used < length (element_list a.args.t3 a.args.count) = omega (arith, p.within, e.if1.false) in
     let more : (get_or a.args.t2.fields l.loop.next no_field).start ≡ length a.args.line.now → ⊥ = λ z. omega (arith, x.there) in
-    omega (arith, place-small (turn-place p x.first more x.found used) a.requires.0.ready)
+    omega (arith, place_small (turn_place p x.first more x.found used) a.requires.0.ready)
 
 add_used : tie.Need-overflow-add-used invariant_loop decreases_loop invariant_lines decreases_lines
 add_used c =
@@ -281,15 +281,15 @@ loop_again c =
     let g = a.well-formed in
     let same =
     elements_at a.args.t3 a.args.count l.loop.used zero_element zero_element (omega arith) (omega (arith, a.requires.0.ready.few)) in (
-      turn-place p x.first more x.found used,
+      turn_place p x.first more x.found used,
       x.on,
       omega arith,
       omega (arith, l.loop.invariant.3),
       λ entry w.
-          writing-element
-          (writing-literals (l.loop.invariant.4 entry w) p x.first e.before.before.before.write_bytes.ensures)
-          (place-literals p x.first) zero_element (get_or a.args.t3 l.loop.used zero_element) used x.found
-          (turn-some p x.first more x.found) same
+          writing_element
+          (writing_literals (l.loop.invariant.4 entry w) p x.first e.before.before.before.write_bytes.ensures)
+          (place_literals p x.first) zero_element (get_or a.args.t3 l.loop.used zero_element) used x.found
+          (turn_some p x.first more x.found) same
           c.before.before.write-element.ensures,
     )
 
@@ -300,7 +300,7 @@ sub_write_bytes_2 c =
     let a = l.before.before.before.before.before in
     let p = l.loop.invariant.0 in
     let n = elements_count a.args.t3 a.args.count in
-    let first = no-next l.loop.invariant.1 (omega (arith, a.requires.1.counted, z.loop-test.false)) in
+    let first = no_next l.loop.invariant.1 (omega (arith, a.requires.1.counted, z.loop-test.false)) in
     omega (arith, p.inside)
 
 part_write_bytes_start_2 : tie.Need-slice-bounds-write-bytes-start-2 invariant_loop decreases_loop invariant_lines decreases_lines
@@ -310,7 +310,7 @@ part_write_bytes_start_2 c =
     let a = l.before.before.before.before.before in
     let p = l.loop.invariant.0 in
     let n = elements_count a.args.t3 a.args.count in
-    let first = no-next l.loop.invariant.1 (omega (arith, a.requires.1.counted, z.loop-test.false)) in
+    let first = no_next l.loop.invariant.1 (omega (arith, a.requires.1.counted, z.loop-test.false)) in
     omega (arith, p.inside)
 
 part_write_bytes_end_2 : tie.Need-slice-bounds-write-bytes-end-2 invariant_loop decreases_loop invariant_lines decreases_lines
@@ -323,7 +323,7 @@ write_bytes_requires_2 c κs =
     let a = l.before.before.before.before.before in
     let p = l.loop.invariant.0 in
     let n = elements_count a.args.t3 a.args.count in
-    let first = no-next l.loop.invariant.1 (omega (arith, a.requires.1.counted, z.loop-test.false)) in
+    let first = no_next l.loop.invariant.1 (omega (arith, a.requires.1.counted, z.loop-test.false)) in
     let w = l.loop.invariant.4 a.args.buffer.now l.before.lines.invariant.1 in
     let size = length a.args.line.now in
     omega (arith, literals_room w p first, part_size (size - l.loop.at) (drop l.loop.at a.args.line.now))
@@ -335,7 +335,7 @@ sub_out_2 c =
     let a = l.before.before.before.before.before in
     let p = l.loop.invariant.0 in
     let n = elements_count a.args.t3 a.args.count in
-    let first = no-next l.loop.invariant.1 (omega (arith, a.requires.1.counted, z.loop-test.false)) in
+    let first = no_next l.loop.invariant.1 (omega (arith, a.requires.1.counted, z.loop-test.false)) in
     omega (arith, p.inside)
 
 add_out_3 : tie.Need-overflow-add-out-3 invariant_loop decreases_loop invariant_lines decreases_lines
@@ -345,8 +345,8 @@ add_out_3 c =
     let a = l.before.before.before.before.before in
     let p = l.loop.invariant.0 in
     let n = elements_count a.args.t3 a.args.count in
-    let first = no-next l.loop.invariant.1 (omega (arith, a.requires.1.counted, z.loop-test.false)) in
-    omega (arith, place-small (place-literals p first) a.requires.0.ready)
+    let first = no_next l.loop.invariant.1 (omega (arith, a.requires.1.counted, z.loop-test.false)) in
+    omega (arith, place_small (place_literals p first) a.requires.0.ready)
 
 slice_write_buffer : tie.Need-slice-write-buffer invariant_loop decreases_loop invariant_lines decreases_lines
 slice_write_buffer c =
@@ -355,12 +355,12 @@ slice_write_buffer c =
     let a = l.before.before.before.before.before in
     let p = l.loop.invariant.0 in
     let n = elements_count a.args.t3 a.args.count in
-    let first = no-next l.loop.invariant.1 (omega (arith, a.requires.1.counted, z.loop-test.false)) in
+    let first = no_next l.loop.invariant.1 (omega (arith, a.requires.1.counted, z.loop-test.false)) in
     let w = l.loop.invariant.4 a.args.buffer.now l.before.lines.invariant.1 in
-    let w2 = writing-literals w p first c.before.before.before.write-bytes2.ensures in
-    let p2 = place-literals p first in
+    let w2 = writing_literals w p first c.before.before.before.write-bytes2.ensures in
+    let p2 = place_literals p first in
     let used : l.loop.used < length (element_list a.args.t3 a.args.count) = omega (arith, p.within, c.if2.false) in
-    line-room w2 p2 a.requires.0.ready used refl
+    line_room w2 p2 a.requires.0.ready used refl
 
 add_out_4 : tie.Need-overflow-add-out-4 invariant_loop decreases_loop invariant_lines decreases_lines
 add_out_4 c =
@@ -369,8 +369,8 @@ add_out_4 c =
     let a = l.before.before.before.before.before in
     let p = l.loop.invariant.0 in
     let n = elements_count a.args.t3 a.args.count in
-    let first = no-next l.loop.invariant.1 (omega (arith, a.requires.1.counted, z.loop-test.false)) in
-    omega (arith, place-small (place-literals p first) a.requires.0.ready)
+    let first = no_next l.loop.invariant.1 (omega (arith, a.requires.1.counted, z.loop-test.false)) in
+    omega (arith, place_small (place_literals p first) a.requires.0.ready)
 
 lines_less : tie.Need-lines-smaller invariant_loop decreases_loop invariant_lines decreases_lines
 lines_less c =
@@ -379,7 +379,7 @@ lines_less c =
     let a = l.before.before.before.before.before in
     let p = l.loop.invariant.0 in
     let n = elements_count a.args.t3 a.args.count in
-    let first = no-next l.loop.invariant.1 (omega (arith, a.requires.1.counted, z.loop-test.false)) in
+    let first = no_next l.loop.invariant.1 (omega (arith, a.requires.1.counted, z.loop-test.false)) in
     let used : l.loop.used < length (element_list a.args.t3 a.args.count) = omega (arith, p.within, c.if2.false) in
     omega (arith, l.loop.invariant.3, z.loop-test.false, listed_some a.requires.0.ready a.requires.1 (omega arith))
 
@@ -390,12 +390,12 @@ lines_again c =
     let a = l.before.before.before.before.before in
     let p = l.loop.invariant.0 in
     let n = elements_count a.args.t3 a.args.count in
-    let first = no-next l.loop.invariant.1 (omega (arith, a.requires.1.counted, z.loop-test.false)) in
+    let first = no_next l.loop.invariant.1 (omega (arith, a.requires.1.counted, z.loop-test.false)) in
     let w = l.loop.invariant.4 a.args.buffer.now l.before.lines.invariant.1 in
-    let w2 = writing-literals w p first c.before.before.before.write-bytes2.ensures in
-    let p2 = place-literals p first in
+    let w2 = writing_literals w p first c.before.before.before.write-bytes2.ensures in
+    let p2 = place_literals p first in
     let used : l.loop.used < length (element_list a.args.t3 a.args.count) = omega (arith, p.within, c.if2.false) in
-    (place-line p2 a.requires.0.ready used refl, writing-line w2 p2 a.requires.0.ready used refl refl)
+    (place_line p2 a.requires.0.ready used refl, writing_line w2 p2 a.requires.0.ready used refl refl)
 
 same_length : tie.Need-same-length invariant_loop decreases_loop invariant_lines decreases_lines
 same_length c =
@@ -407,8 +407,8 @@ same_length c =
     let few : l.loop.next < 65 = omega (arith, l.loop.invariant.3, p.within, a.requires.0.ready.few) in
     let x = listed_next no_field a.requires.1 l.loop.invariant.1 y.before.before.before.loop-test.true few in
     let w = l.loop.invariant.4 a.args.buffer.now l.before.lines.invariant.1 in
-    let w2 = writing-literals w p x.first c.before.before.before.write_bytes.ensures in
-    writing-length w2 ((place-literals p x.first).stands a.args.texts.now)
+    let w2 = writing_literals w p x.first c.before.before.before.write_bytes.ensures in
+    writing_length w2 ((place_literals p x.first).stands a.args.texts.now)
 
 returns : tie.Need-returns invariant_loop decreases_loop invariant_lines decreases_lines
 returns c =
@@ -420,9 +420,9 @@ returns c =
     let few : l.loop.next < 65 = omega (arith, l.loop.invariant.3, p.within, a.requires.0.ready.few) in
     let x = listed_next no_field a.requires.1 l.loop.invariant.1 y.before.before.before.loop-test.true few in
     let w = l.loop.invariant.4 a.args.buffer.now l.before.lines.invariant.1 in
-    let w2 = writing-literals w p x.first c.before.before.before.write_bytes.ensures in
+    let w2 = writing_literals w p x.first c.before.before.before.write_bytes.ensures in
     let all : l.loop.used ≡ length (element_list a.args.t3 a.args.count) = omega (arith, c.if1.true) in
-    writing-ends w2 (place-literals p x.first) all (literals_at a.args.line.now l.loop.at x.first)
+    writing_ends w2 (place_literals p x.first) all (literals_at a.args.line.now l.loop.at x.first)
 
 same_length_2 : tie.Need-same-length-2 invariant_loop decreases_loop invariant_lines decreases_lines
 same_length_2 c =
@@ -431,11 +431,11 @@ same_length_2 c =
     let a = l.before.before.before.before.before in
     let p = l.loop.invariant.0 in
     let n = elements_count a.args.t3 a.args.count in
-    let first = no-next l.loop.invariant.1 (omega (arith, a.requires.1.counted, z.loop-test.false)) in
+    let first = no_next l.loop.invariant.1 (omega (arith, a.requires.1.counted, z.loop-test.false)) in
     let w = l.loop.invariant.4 a.args.buffer.now l.before.lines.invariant.1 in
-    let w2 = writing-literals w p first c.before.before.before.write-bytes2.ensures in
-    let p2 = place-literals p first in
-    writing-length w2 (p2.stands a.args.texts.now)
+    let w2 = writing_literals w p first c.before.before.before.write-bytes2.ensures in
+    let p2 = place_literals p first in
+    writing_length w2 (p2.stands a.args.texts.now)
 
 returns_2 : tie.Need-returns-2 invariant_loop decreases_loop invariant_lines decreases_lines
 returns_2 c =
@@ -444,12 +444,12 @@ returns_2 c =
     let a = l.before.before.before.before.before in
     let p = l.loop.invariant.0 in
     let n = elements_count a.args.t3 a.args.count in
-    let first = no-next l.loop.invariant.1 (omega (arith, a.requires.1.counted, z.loop-test.false)) in
+    let first = no_next l.loop.invariant.1 (omega (arith, a.requires.1.counted, z.loop-test.false)) in
     let w = l.loop.invariant.4 a.args.buffer.now l.before.lines.invariant.1 in
-    let w2 = writing-literals w p first c.before.before.before.write-bytes2.ensures in
-    let p2 = place-literals p first in
+    let w2 = writing_literals w p first c.before.before.before.write-bytes2.ensures in
+    let p2 = place_literals p first in
     let all : l.loop.used ≡ length (element_list a.args.t3 a.args.count) = omega (arith, c.if2.true) in
-    writing-ends w2 p2 all (literals_at a.args.line.now l.loop.at first)
+    writing_ends w2 p2 all (literals_at a.args.line.now l.loop.at first)
 
 pub write_lines_spec : {M : Type 1} → statement M
 write_lines_spec =

@@ -7,7 +7,7 @@ use native.Mathlib.Omega.{arith}
 use lib.ListN.{length}
 use Rattle.decimal.specs.Image.{state_of}
 use Rattle.decimal.proofs.ImageLaws.{hash_once}
-use Rattle.records.proofs.ScanLaws.{Scanning, scanning_starts, scanning-field, scanning-none, scanning_stops, scanning_ends}
+use Rattle.records.proofs.ScanLaws.{Scanning, scanning_starts, scanning_field, scanning_none, scanning_stops, scanning_ends}
 use Rattle.records.proofs.scanning.scan_field.Statement.{statement}
 use Rattle.records.proofs.scanning.scan_field.Tie as tie
 
@@ -73,7 +73,7 @@ loop_again c =
     let t = c.before.before.before in
     let s = t.before.before.before.before in
     let l = s.before.before in
-    scanning-field l.before.loop.invariant l.loop-test.true s.next-state.ensures (sym t.before.is_field.ensures ∙ t.if2.true)
+    scanning_field l.before.loop.invariant l.loop-test.true s.next-state.ensures (sym t.before.is_field.ensures ∙ t.if2.true)
     c.before.before.integer-hash.ensures c.before.fraction-hash.ensures c.is-exponential.ensures
 
 loop_less_2 : tie.Need-loop-smaller-2 invariant_loop decreases_loop
@@ -83,7 +83,7 @@ loop_again_2 : tie.Need-loop-preserved-2 invariant_loop decreases_loop
 loop_again_2 c =
     let s = c.before.before.before.before in
     let l = s.before.before in
-    scanning-none l.before.loop.invariant l.loop-test.true s.next-state.ensures
+    scanning_none l.before.loop.invariant l.loop-test.true s.next-state.ensures
     (sym c.before.is_field.ensures ∙ c.if2.false)
 
 returns_2 : tie.Need-returns-2 invariant_loop decreases_loop

@@ -8,7 +8,7 @@ use Rattle.decimal.specs.Digits.{digits_of}
 use Rattle.codec.specs.Alpha.{digit_bytes}
 use Rattle.codec.specs.Answers.{written}
 use Rattle.records.specs.Writing.{decimal_text}
-use Rattle.records.proofs.WritingLaws.{decimal-start, decimal-turn, decimal-end}
+use Rattle.records.proofs.WritingLaws.{decimal_start, decimal_turn, decimal_end}
 use Rattle.records.proofs.writing.write_decimal.Statement.{statement}
 use Rattle.records.proofs.writing.write_decimal.Tie as tie
 
@@ -28,8 +28,8 @@ loop_holds : tie.Need-loop-init invariant_loop decreases_loop
 loop_holds c =
     let s = c.before.before in
     let a = s.args in
-    let found = c.decimal-length.ensures in
-    (omega (arith, found, s.requires), refl, decimal-start a.buffer.now a.at a.value (omega arith) found)
+    let found = c.decimal_length.ensures in
+    (omega (arith, found, s.requires), refl, decimal_start a.buffer.now a.at a.value (omega arith) found)
 
 sub_j : tie.Need-overflow-sub-j invariant_loop decreases_loop
 sub_j c = omega arith
@@ -55,7 +55,7 @@ loop_again c =
     let a = c.before.before.before.before.args in (
       omega arith,
       length-set l.buffer (a.at + (l.j - 1)) (48 + l.rest % 10) ∙ l.invariant.1,
-      decimal-turn l.buffer a.at l.j l.rest (omega arith) (omega arith) ∙ l.invariant.2,
+      decimal_turn l.buffer a.at l.j l.rest (omega arith) (omega arith) ∙ l.invariant.2,
     )
 
 same_length : tie.Need-same-length invariant_loop decreases_loop
@@ -65,7 +65,7 @@ returns : tie.Need-returns invariant_loop decreases_loop
 returns c =
     let l = c.before.loop in
     let a = c.before.before.before.before.args in
-    sym (decimal-end l.buffer a.at l.j l.rest (omega arith)) ∙ l.invariant.2
+    sym (decimal_end l.buffer a.at l.j l.rest (omega arith)) ∙ l.invariant.2
 
 pub write_decimal_spec : {M : Type 1} → statement M
 write_decimal_spec =

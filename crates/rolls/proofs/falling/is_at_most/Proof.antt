@@ -5,7 +5,7 @@ use borrow.Author.Rules.{rules}
 use Rattle.decimal.specs.Number.{normal}
 use Rattle.decimal.specs.Comparison.{is_at_most, order_meaning}
 use Rattle.rolls.specs.Falling.{at_most}
-use Rattle.rolls.proofs.FallLaws.{ordered, never-refused}
+use Rattle.rolls.proofs.FallLaws.{ordered, never_refused}
 use Rattle.rolls.proofs.falling.is_at_most.Statement.{statement}
 use Rattle.rolls.proofs.falling.is_at_most.Tie as tie
 
@@ -41,7 +41,7 @@ enum_told_4 c = search rules
 returns : tie.Need-returns
 returns c h g =
     let a = c.before.before.before.args in
-    never-refused a.first a.second h g (ap order_meaning (sym c.enum_told.given.1) ∙ c.before.before.compare.ensures)
+    never_refused a.first a.second h g (ap order_meaning (sym c.enum_told.given.1) ∙ c.before.before.compare.ensures)
 
 returns_2 : tie.Need-returns-2
 returns_2 c h g = ap is_at_most (sym c.enum-told2.given.1) ∙ told c.before.before.before h g

@@ -8,7 +8,7 @@ use borrow.Author.Rules.{rules}
 use borrow.Author.Tests.{not-true, not-false}
 use Rattle.decimal.specs.Number.{normal}
 use Rattle.rolls.specs.Searching.{max_positions, position_list}
-use Rattle.rolls.proofs.PageLaws.{nothing, positions_count, position_at, Checking, checking_starts, checking-turns, checking-stops, checking-ends}
+use Rattle.rolls.proofs.PageLaws.{nothing, positions_count, position_at, Checking, checking_starts, checking-turns, checking-stops, checking_ends}
 use Rattle.rolls.proofs.searching.check_normal.Statement.{statement}
 use Rattle.rolls.proofs.searching.check_normal.Tie as tie
 
@@ -74,7 +74,7 @@ returns_2 : tie.Need-returns-2 invariant_loop decreases_loop
 returns_2 c =
     let l = c.before in
     let p = l.before.args.t1 in
-    sym (checking-ends _ l.loop.invariant.1 (omega (arith, positions_count p, c.loop-test.false)))
+    sym (checking_ends _ l.loop.invariant.1 (omega (arith, positions_count p, c.loop-test.false)))
 
 pub check_normal_spec : {M : Type 1} → statement M
 check_normal_spec =

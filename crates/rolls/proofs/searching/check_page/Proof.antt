@@ -9,13 +9,13 @@ use Rattle.decimal.specs.Answer.{done, check_meaning}
 use Rattle.codec.specs.Lists.{max_columns, no_image, image_list}
 use Rattle.codec.proofs.UnderLaws.{image_at}
 use Rattle.rolls.specs.Searching.{position_list, is_unsigned_fixed, check_numbers}
-use Rattle.rolls.proofs.PageLaws.{page-abnormal, page-kind, page-positions, page-records, page-fine}
+use Rattle.rolls.proofs.PageLaws.{page_abnormal, page-kind, page-positions, page-records, page-fine}
 use Rattle.rolls.proofs.searching.check_page.Statement.{statement}
 use Rattle.rolls.proofs.searching.check_page.Tie as tie
 
 -- the positions are in normal form
 normals : (t : tie.After-enum-told2) → check_numbers 0 (position_list t.before.before.before.args.positions) ≡ done tt
-normals t = sym t.before.before.check-normal.ensures ∙ ap check_meaning t.enum-told2.given.1
+normals t = sym t.before.before.check_normal.ensures ∙ ap check_meaning t.enum-told2.given.1
 
 -- the kind of the first column
 kind :
@@ -43,7 +43,7 @@ returns c =
     let a = k.before.args in
     let told = ap check_meaning c.enum_told.given.1 in
     told
-    ∙ sym (page-abnormal (image_list a.t1) (position_list a.positions) a.falls (sym k.check-normal.ensures ∙ told))
+    ∙ sym (page_abnormal (image_list a.t1) (position_list a.positions) a.falls (sym k.check_normal.ensures ∙ told))
 
 enum_told_2 : tie.Need-enum-told-2
 enum_told_2 c = search rules

@@ -17,8 +17,8 @@ use Rattle.records.specs.Files.{read_file}
 use Rattle.rolls.specs.Falling.{fall}
 use Rattle.rolls.specs.Searching.{max_positions, position_list, keys_in, check_page, found_of, HasContents, Walks}
 use Rattle.rolls.proofs.PageLaws.{positions_count}
-use Rattle.rolls.proofs.KeyLaws.{contents-held}
-use Rattle.rolls.proofs.SearchLaws.{page_taken, search-file, search-many, search-bad, search-page, search-done, found_walked}
+use Rattle.rolls.proofs.KeyLaws.{contents_held}
+use Rattle.rolls.proofs.SearchLaws.{page_taken, search_file, search-many, search-bad, search-page, search-done, found_walked}
 use borrow.Author.Rules.{rules}
 use Rattle.rolls.proofs.searching.find.Statement.{statement}
 use Rattle.rolls.proofs.searching.find.Tie as tie
@@ -59,7 +59,7 @@ asked k =
     let w = t.before.before in
     let ps = position_list w.before.before.before.before.before.before.before.args.positions in
     k.check-page.ensures
-    ∙ ap₂ (λ (l : List Image) (b : Bool). check_page l ps b) (contents-held (contents w.before.before.before)).images ((walked w).falls (keys t).1)
+    ∙ ap₂ (λ (l : List Image) (b : Bool). check_page l ps b) (contents_held (contents w.before.before.before)).images ((walked w).falls (keys t).1)
 
 read_file_requires : tie.Need-read-file-requires
 read_file_requires c κs = search rules
@@ -76,7 +76,7 @@ returns c =
     let r = n.before.before in
     let a = r.before.before.args in
     c.not_found.ensures
-    ∙ sym (ap found_of (search-file a.file.now (position_list a.positions)
+    ∙ sym (ap found_of (search_file a.file.now (position_list a.positions)
     (told_refused (read_file a.file.now) r.read-file.result n.answer.given.0.0 r.read-file.ensures n.answer.given.1)))
 
 enum_told : tie.Need-enum-told
@@ -118,7 +118,7 @@ enum_told_2 c = search rules
 check_page_requires : tie.Need-check-page-requires
 check_page_requires c κs =
     let e = c.before.before.before.before in
-    let t = contents-held (contents e.before.before) in
+    let t = contents_held (contents e.before.before) in
     (omega (arith, t.count, t.sound.low), e.if1.false)
 
 enum_known_refusal : tie.Need-enum-known-refusal

@@ -12,7 +12,7 @@ use Rattle.decimal.specs.Number.{zero_number, normal}
 use Rattle.decimal.proofs.NumberLaws.{zero_normal}
 use Rattle.rolls.specs.Falling.{at_most}
 use Rattle.rolls.specs.Searching.{max_positions, position_list}
-use Rattle.rolls.proofs.PageLaws.{nothing, positions_count, position_at, all_normal, Rising, rising-starts, rising-turns, rising-stops, rising-ends}
+use Rattle.rolls.proofs.PageLaws.{nothing, positions_count, position_at, all_normal, Rising, rising_starts, rising-turns, rising-stops, rising_ends}
 use Rattle.rolls.proofs.searching.positions_fall.Statement.{statement}
 use Rattle.rolls.proofs.searching.positions_fall.Tie as tie
 
@@ -44,7 +44,7 @@ is_normal x =
     ∙ all_normal (position_list s.args.t1) s.requires.1 x.before.loop.index (omega (arith, positions_count s.args.t1, x.loop-test.true))
 
 loop_holds : tie.Need-loop-init invariant_loop decreases_loop
-loop_holds c = (omega arith, zero_normal, rising-starts _ _)
+loop_holds c = (omega arith, zero_normal, rising_starts _ _)
 
 mul_position : tie.Need-overflow-mul-position invariant_loop decreases_loop
 mul_position c = let l = c.before in omega (arith, c.loop-test.true, l.before.requires.0)
@@ -91,7 +91,7 @@ returns_2 : tie.Need-returns-2 invariant_loop decreases_loop
 returns_2 c =
     let l = c.before in
     let p = l.before.args.t1 in
-    rising-ends _ l.loop.invariant.2 (omega (arith, positions_count p, c.loop-test.false))
+    rising_ends _ l.loop.invariant.2 (omega (arith, positions_count p, c.loop-test.false))
 
 pub positions_fall_spec : {M : Type 1} → statement M
 positions_fall_spec =

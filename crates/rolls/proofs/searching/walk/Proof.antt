@@ -21,11 +21,11 @@ use Rattle.codec.proofs.UnpackLaws.{unpack_refused, unpack_read, unpack_at}
 use Rattle.records.proofs.LinesLaws.{body_at, part_unpacked}
 use Rattle.rolls.specs.Falling.{at_most}
 use Rattle.rolls.specs.Searching.{max_positions, position_list, check_numbers, walk, HasContents}
-use Rattle.rolls.proofs.KeyLaws.{contents-held, contents_some, keying-inside, keying-stops, keying-ends}
-use Rattle.rolls.proofs.FallLaws.{fell, not_fell, fallen-ends}
-use Rattle.rolls.proofs.WalkLaws.{Walking, walking_reads, walking-turns, walking-passes, walking-over, walking_counted, Filling, filling_starts, filling-turns, filling-ends}
+use Rattle.rolls.proofs.KeyLaws.{contents_held, contents_some, keying-inside, keying-stops, keying_ends}
+use Rattle.rolls.proofs.FallLaws.{fell, not_fell, fallen_ends}
+use Rattle.rolls.proofs.WalkLaws.{Walking, walking_reads, walking-turns, walking-passes, walking_over, walking_counted, Filling, filling_starts, filling_turns, filling_ends}
 use Rattle.rolls.proofs.PageLaws.{nothing, positions_count, position_at, all_normal}
-use Rattle.rolls.proofs.PassLaws.{Passing, passing_starts, key-normal, passing-turns, pass-refused, pass-done}
+use Rattle.rolls.proofs.PassLaws.{Passing, passing_starts, key_normal, passing_turns, pass_refused, pass_done}
 use Rattle.rolls.proofs.searching.walk.Statement.{statement}
 use Rattle.rolls.proofs.searching.walk.Tie as tie
 
@@ -100,7 +100,7 @@ inside :
 inside x =
     let s = entry x in
     let p = x.before.loop.inv.3 s.pre.0 in
-    omega (arith, keying-inside p.reads x.loop-test.taken, (contents-held s.pre.0).body)
+    omega (arith, keying-inside p.reads x.loop-test.taken, (contents_held s.pre.0).body)
 
 -- the body as it is read
 unpacked :
@@ -112,7 +112,7 @@ unpacked u h =
     let l = (of_body u).before in
     let a = (entry (of_body u)).args in
     let size : l.loop.at + a.table.body - l.loop.at ≡ a.table.body = omega arith in
-    part_unpacked (contents-held h) a.file.now l.loop.at
+    part_unpacked (contents_held h) a.file.now l.loop.at
     (u.unpack-under.ensures
     ∙ ap (λ (k : ℕ). unpacked_of (unpack_under (image_list a.table.images) (take k (drop l.loop.at a.file.now)))) size)
 
@@ -138,7 +138,7 @@ loop_holds : tie.Need-loop-init invariant_settle decreases_settle invariant_loop
 unfolding filled
 loop_holds c =
     let s = c.before.before in
-    (omega arith, omega arith, omega arith, λ h. passing_starts s.args.file.now _ h.reads (contents-held h).size refl)
+    (omega arith, omega arith, omega arith, λ h. passing_starts s.args.file.now _ h.reads (contents_held h).size refl)
 
 add_end : tie.Need-overflow-add-end invariant_settle decreases_settle invariant_loop decreases_loop invariant_loop2 decreases_loop2
 add_end c = let x = c.before in let s = entry x in omega (arith, inside x, s.good.0.0)
@@ -168,7 +168,7 @@ returns c =
     let l = x.before in
     λ h.
     let refused-body = unpack_refused _ (unpacked u h) c.enum_told.given.1 in
-    pass-refused _ (keying-stops (l.loop.invariant.3 h).reads x.loop-test.true refused-body) (ap check_meaning c.enum_told.given.1)
+    pass_refused _ (keying-stops (l.loop.invariant.3 h).reads x.loop-test.true refused-body) (ap check_meaning c.enum_told.given.1)
 
 enum_told_2 : tie.Need-enum-told-2 invariant_settle decreases_settle invariant_loop decreases_loop invariant_loop2 decreases_loop2
 enum_told_2 c = search rules
@@ -214,7 +214,7 @@ compared m normals =
     let ps = position_list s.args.t3 in
     let more : y.before.settle.next < length ps = omega (arith, positions_count s.args.t3, y.settle-test.true) in
     let d = read n s.pre.0 in
-    let key = key-normal (l.loop.inv.3 s.pre.0) x.loop-test.taken d.reads d.key in
+    let key = key_normal (l.loop.inv.3 s.pre.0) x.loop-test.taken d.reads d.key in
     let position : normal (get_or s.args.t3.values y.before.settle.next nothing) ≡ true =
     ap normal (current y) ∙ all_normal ps normals y.before.settle.next more in
     m.is-at-most.ensures position key
@@ -276,7 +276,7 @@ loop_less : tie.Need-loop-smaller invariant_settle decreases_settle invariant_lo
 loop_less c =
     let x = of_key c.before.before.before.before in
     let s = entry x in
-    omega (arith, inside x, (contents-held s.pre.0).body, contents_some s.pre.0)
+    omega (arith, inside x, (contents_held s.pre.0).body, contents_some s.pre.0)
 
 loop_again : tie.Need-loop-preserved invariant_settle decreases_settle invariant_loop decreases_loop invariant_loop2 decreases_loop2
 loop_again c =
@@ -292,18 +292,18 @@ loop_again c =
     let number = get_or n.before.before.before.before.unpack-under.result.numbers.values 0 nothing in
     let p = l.loop.inv.3 s.pre.0 in
     let d = read n s.pre.0 in
-    let key = key-normal p x.loop-test.taken d.reads d.key in
+    let key = key_normal p x.loop-test.taken d.reads d.key in
     let told = f.is-fallen.ensures p.last_normal key in (
       e.settle.invariant.0,
       ⊎_elim
           (λ w. omega (arith, w.1, e.settle.invariant.1))
           (λ w. omega (arith, w.4, e.settle.invariant.1))
           c.settle-test.branch,
-      omega (arith, l.loop.inv.2, (contents-held s.pre.0).body, contents_some s.pre.0),
+      omega (arith, l.loop.inv.2, (contents_held s.pre.0).body, contents_some s.pre.0),
       λ h.
           let q = l.loop.inv.3 h in
           let r = read n h in
-          passing-turns q x.loop-test.taken r.reads r.key
+          passing_turns q x.loop-test.taken r.reads r.key
           (⊎_elim
           (λ w. w.1 ∙ fell l.loop.falls (sym told ∙ w.0.taken))
           (λ w. w.1 ∙ not_fell l.loop.falls (sym told ∙ w.0.left))
@@ -313,14 +313,14 @@ loop_again c =
           ⊎_elim
           (λ w.
           subst (λ (k : ℕ). Walking ps (q.keys ++ number ∷ []) [] e.settle.next (l.loop.«record» + 1) k e.settle.records) (sym w.1)
-          (walking-over v (omega (arith, count, w.0.left))))
+          (walking_over v (omega (arith, count, w.0.left))))
           (λ w.
           let m : tie.After-is-at-most invariant_settle decreases_settle invariant_loop decreases_loop invariant_loop2 decreases_loop2 =
           record { before = record { before = record { before = e; settle-test = w.0 }; position = w.1 }; is-at-most = w.2 } in
           subst (λ (k : ℕ). Walking ps (q.keys ++ number ∷ []) [] e.settle.next (l.loop.«record» + 1) k e.settle.records) (sym w.4)
           (walking-passes v (omega (arith, count, w.0.taken)) (sym (compared m normals) ∙ not-true m.is-at-most.result w.3.taken)))
           c.settle-test.branch)
-          (ap (λ (k : ℕ). l.loop.at + k) (contents-held h).body),
+          (ap (λ (k : ℕ). l.loop.at + k) (contents_held h).body),
     )
 
 loop2_holds : tie.Need-loop2-init invariant_settle decreases_settle invariant_loop decreases_loop invariant_loop2 decreases_loop2
@@ -344,7 +344,7 @@ loop2_again c =
     let s = c.before.before.before.before.before.before in (
       omega (arith, c.loop2-test.true),
       λ ps whole e f.
-          filling-turns (c.before.loop2.invariant.1 ps whole e f) (omega (arith, c.loop2-test.true)) (omega (arith, c.loop2-test.true, s.requires.1)),
+          filling_turns (c.before.loop2.invariant.1 ps whole e f) (omega (arith, c.loop2-test.true)) (omega (arith, c.loop2-test.true, s.requires.1)),
     )
 
 returns_2 : tie.Need-returns-2 invariant_settle decreases_settle invariant_loop decreases_loop invariant_loop2 decreases_loop2
@@ -356,11 +356,11 @@ returns_2 c =
     let count = positions_count s.args.t3 in
     λ h.
     let p = l.loop.invariant.3 h in
-    let all = keying-ends p.reads (contents_some h) o.loop-test.false in
-    pass-done ps all refl (fallen-ends p.fallen)
+    let all = keying_ends p.reads (contents_some h) o.loop-test.false in
+    pass_done ps all refl (fallen_ends p.fallen)
     (λ normals.
     let w = p.walks normals in (
-      filling-ends (c.before.loop2.invariant.1 ps (walk 0 ps p.keys).records count (filling_starts w)) (omega (arith, count, c.loop2-test.false)),
+      filling_ends (c.before.loop2.invariant.1 ps (walk 0 ps p.keys).records count (filling_starts w)) (omega (arith, count, c.loop2-test.false)),
       walking_counted w,
     ))
 

@@ -1,0 +1,19 @@
+-- `decimal::truncation::kept_halves` meets its contract: the first digits, with zeros before them. Assumes nothing.
+use Rattle.std.proofs.Common.{◌≡◌, ℕ, ◌+◌, ◌-◌, ◌*◌, ◌/◌, ◌^◌, ◌<◌, ◌≤◌, take, sym, ap, ◌∙◌, div-lt_iff_lt-mul, add_comm, arith, rules}
+use Rattle.decimal.specs.Digits.{precision, digits_of, packed_of}
+use Rattle.decimal.proofs.PowerLaws.{pow10_pos, pow10_add}
+use Rattle.decimal.proofs.DigitLaws.{digits_first, digits_padded}
+use Rattle.decimal.proofs.PackedLaws.{packed_zeros}
+use Rattle.decimal.proofs.truncation.kept_halves.Goals as goal
+
+-- of w digits the first n are kept, and d dropped
+kept : (w d n m : ℕ) → w ≡ n + d → m < 10 ^ w → packed_of (take n (digits_of w m)) ≡ packed_of (digits_of w (m / 10 ^ d))
+kept w d n m e below =
+    let power : 10 ^ w ≡ 10 ^ n * 10 ^ d = ap (λ (q : ℕ). 10 ^ q) e ∙ pow10_add n d in
+    let small : m / 10 ^ d < 10 ^ n = (div-lt_iff_lt-mul (pow10_pos d)).1 (rw power at below) in
+    rw (e, digits_first n d m, add_comm n d, digits_padded d n (m / 10 ^ d) small) (sym (packed_zeros d (digits_of n (m / 10 ^ d))))
+
+pub returns : goal.returns
+returns c =
+    let a = c.args in
+    c.packed_digits.ensures ∙ kept precision (precision - a.count) a.count a.mantissa (omega arith) c.requires.0
