@@ -32,4 +32,3 @@ pub mod ReadingTheorem
 pub mod WalkLaws
 pub mod CutTheorem
 pub mod WalkTheorem
-pub mod WalkerLaws

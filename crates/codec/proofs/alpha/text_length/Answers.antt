@@ -1,0 +1,24 @@
+-- `text_length` meets its contract: each part has its length. Assumes nothing.
+use native.Mathlib.Omega.{arith}
+use Rattle.codec.specs.Alpha.{text_length, tail_length}
+use Rattle.codec.proofs.AlphaLaws.{fraction_few, exponent_few}
+use Rattle.codec.proofs.ContentsLaws.{sign_few}
+use borrow.Author.Rules.{rules}
+use Rattle.codec.proofs.alpha.text_length.Goals as goal
+
+pub overflow_add-tail : goal.overflow_add-tail
+overflow_add-tail c =
+    let im = c.args.image in
+    omega (arith, fraction_few im.fraction, exponent_few im.exponential)
+
+pub overflow_add-result : goal.overflow_add-result
+overflow_add-result c = let im = c.args.image in
+    omega (arith, fraction_few im.fraction, exponent_few im.exponential)
+
+pub overflow_add-result-2 : goal.overflow_add-result-2
+overflow_add-result-2 c = let im = c.args.image in
+    omega (arith, fraction_few im.fraction, exponent_few im.exponential, sign_few im.sign)
+
+pub returns : goal.returns
+unfolding text_length tail_length
+returns c = omega arith
