@@ -8,7 +8,7 @@ use borrow.Author.Rules.{rules}
 use borrow.Author.Tests.{not-true, not-false}
 use Rattle.decimal.specs.Number.{normal}
 use Rattle.rolls.specs.Searching.{max_positions, position_list}
-use Rattle.rolls.proofs.PageLaws.{nothing, positions_count, position_at, Checking, checking_starts, checking-turns, checking-stops, checking_ends}
+use Rattle.rolls.proofs.PageLaws.{nothing, positions_count, position_at, Checking, checking_starts, checking_turns, checking_stops, checking_ends}
 use Rattle.rolls.proofs.searching.check_normal.Goals as goal
 
 pub loop-index-init : goal.loop-index-init
@@ -20,7 +20,7 @@ returns-then-not-is_normal c =
     let l = c.loop-index in
     let e = position_at p l.index nothing c.loop-index-test.true (omega (arith, c.loop-index-test.true, c.requires)) in
     c.refused.ensures
-    ∙ sym (checking-stops _ l.invariant.1 (omega (arith, positions_count p, c.loop-index-test.true))
+    ∙ sym (checking_stops _ l.invariant.1 (omega (arith, positions_count p, c.loop-index-test.true))
     (ap normal (sym e) ∙ sym c.is_normal.ensures ∙ c.if-not-is_normal.true))
 
 pub loop-index-preserved : goal.loop-index-preserved
@@ -30,7 +30,7 @@ loop-index-preserved c =
     let e = position_at p l.index nothing c.loop-index-test.true (omega (arith, c.loop-index-test.true, c.requires)) in
     (
       omega (arith, c.loop-index-test.true),
-      checking-turns _ l.invariant.1 (omega (arith, positions_count p, c.loop-index-test.true))
+      checking_turns _ l.invariant.1 (omega (arith, positions_count p, c.loop-index-test.true))
           (ap normal (sym e) ∙ sym c.is_normal.ensures ∙ c.if-not-is_normal.false),
     )
 

@@ -8,7 +8,7 @@ use borrow.Author.Rules.{rules}
 use borrow.Author.Tests.{not-true, not-false}
 use Rattle.decimal.specs.Number.{normal}
 use Rattle.rolls.specs.Searching.{max_positions, position_list}
-use Rattle.rolls.proofs.PageLaws.{nothing, positions_count, position_at, Checking, checking_starts, checking-turns, checking-stops, checking_ends}
+use Rattle.rolls.proofs.PageLaws.{nothing, positions_count, position_at, Checking, checking_starts, checking_turns, checking_stops, checking_ends}
 use Rattle.rolls.proofs.searching.check_normal.Given as goal
 
 abbrev pub invariant-loop-index : goal.invariant-loop-index

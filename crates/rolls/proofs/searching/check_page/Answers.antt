@@ -9,7 +9,7 @@ use Rattle.decimal.specs.Answer.{done, check_meaning}
 use Rattle.codec.specs.Lists.{max_columns, no_image, image_list}
 use Rattle.codec.proofs.UnderLaws.{image_at}
 use Rattle.rolls.specs.Searching.{position_list, is_unsigned_fixed, check_numbers}
-use Rattle.rolls.proofs.PageLaws.{page_abnormal, page-kind, page-positions, page-records, page-fine}
+use Rattle.rolls.proofs.PageLaws.{page_abnormal, page_kind, page_positions, page_records, page_fine}
 use Rattle.rolls.proofs.searching.check_page.Goals as goal
 
 pub check_normal-normal-requires : goal.check_normal-normal-requires
@@ -28,7 +28,7 @@ returns-then-not-is_unsigned_fixed c =
     let normals : check_numbers 0 (position_list a.positions) ≡ done tt = sym c.check_normal-normal.ensures ∙ ap check_meaning c.in_default.is in
     let kind = c.is_unsigned_fixed.ensures ∙ ap is_unsigned_fixed (image_at a.images 0 no_image c.requires.0 (omega arith)) in
     c.refused.ensures
-    ∙ sym (page-kind (image_list a.images) (position_list a.positions) a.falls normals
+    ∙ sym (page_kind (image_list a.images) (position_list a.positions) a.falls normals
     (sym kind ∙ c.if-not-is_unsigned_fixed.true))
 
 pub positions_fall-requires : goal.positions_fall-requires
@@ -44,7 +44,7 @@ returns-then-positions_fall c =
     let kind = c.is_unsigned_fixed.ensures ∙ ap is_unsigned_fixed (image_at a.images 0 no_image c.requires.0 (omega arith)) in
     let fixed = sym kind ∙ c.if-not-is_unsigned_fixed.false in
     c.refused-then-positions_fall.ensures
-    ∙ sym (page-positions (image_list a.images) (position_list a.positions) a.falls normals fixed
+    ∙ sym (page_positions (image_list a.images) (position_list a.positions) a.falls normals fixed
     (sym c.positions_fall.ensures ∙ c.if-positions_fall.true))
 
 pub returns-then-falls : goal.returns-then-falls
@@ -54,7 +54,7 @@ returns-then-falls c =
     let kind = c.is_unsigned_fixed.ensures ∙ ap is_unsigned_fixed (image_at a.images 0 no_image c.requires.0 (omega arith)) in
     let fixed = sym kind ∙ c.if-not-is_unsigned_fixed.false in
     c.refused-then-falls.ensures
-    ∙ sym (page-records (image_list a.images) (position_list a.positions) a.falls normals fixed
+    ∙ sym (page_records (image_list a.images) (position_list a.positions) a.falls normals fixed
     (sym c.positions_fall.ensures ∙ c.if-positions_fall.false) c.if-falls.true)
 
 pub returns : goal.returns
@@ -63,5 +63,5 @@ returns c =
     let normals : check_numbers 0 (position_list a.positions) ≡ done tt = sym c.check_normal-normal.ensures ∙ ap check_meaning c.in_default.is in
     let kind = c.is_unsigned_fixed.ensures ∙ ap is_unsigned_fixed (image_at a.images 0 no_image c.requires.0 (omega arith)) in
     let fixed = sym kind ∙ c.if-not-is_unsigned_fixed.false in
-    sym (page-fine (image_list a.images) (position_list a.positions) a.falls normals fixed
+    sym (page_fine (image_list a.images) (position_list a.positions) a.falls normals fixed
     (sym c.positions_fall.ensures ∙ c.if-positions_fall.false) c.if-falls.false)

@@ -18,7 +18,7 @@ use Rattle.rolls.specs.Falling.{fall}
 use Rattle.rolls.specs.Searching.{max_positions, position_list, keys_in, check_page, found_of, HasContents, Walks}
 use Rattle.rolls.proofs.PageLaws.{positions_count}
 use Rattle.rolls.proofs.KeyLaws.{contents_held}
-use Rattle.rolls.proofs.SearchLaws.{page_taken, search_file, search-many, search-bad, search-page, search-done, found_walked}
+use Rattle.rolls.proofs.SearchLaws.{page_taken, search_file, search_many, search_bad, search_page, search_done, found_walked}
 use borrow.Author.Rules.{rules}
 use Rattle.codec.specs.declared.contents.Contents.{Contents}
 use Rattle.decimal.specs.declared.refusal.CheckAnswer.TheVariants as CheckAnswer
@@ -48,7 +48,7 @@ returns-then-positions-gt-POSITIONS c =
     let ps = position_list a.positions in
     let contents = contents_of_file a.file.now c.read_file-table.result c.read_file-table.ensures c.in_default.is in
     c.not_found-then-positions-gt-POSITIONS.ensures
-    ∙ sym (ap found_of (search-many a.file.now ps contents.reads (omega (arith, positions_count a.positions, c.if-positions-gt-POSITIONS.true))))
+    ∙ sym (ap found_of (search_many a.file.now ps contents.reads (omega (arith, positions_count a.positions, c.if-positions-gt-POSITIONS.true))))
 
 pub walk-walked-requires : goal.walk-walked-requires
 walk-walked-requires c =
@@ -65,7 +65,7 @@ returns-in-Refused-read c =
     let few : length ps ≤ max_positions = omega (arith, positions_count a.positions, c.if-positions-gt-POSITIONS.false) in
     let walked = c.walk-walked.ensures contents in
     c.not_found-in-Refused-read.ensures
-    ∙ sym (ap found_of (search-bad a.file.now ps contents.reads few
+    ∙ sym (ap found_of (search_bad a.file.now ps contents.reads few
     (checked_refused _ (sym walked.answers ∙ ap check_meaning c.in-Refused-read.is))))
 
 pub check_page-requires : goal.check_page-requires
@@ -88,7 +88,7 @@ returns-in-Refused-check_page c =
     c.check_page.ensures
     ∙ ap₂ (λ (l : List Image) (b : Bool). check_page l ps b) (contents_held contents).images (walked.falls keys.1) in
     c.not_found-in-Refused-check_page.ensures
-    ∙ sym (ap found_of (search-page a.file.now ps contents.reads few keys.1
+    ∙ sym (ap found_of (search_page a.file.now ps contents.reads few keys.1
     (sym asked ∙ ap check_meaning c.in-Refused-check_page.is)))
 
 pub returns : goal.returns
@@ -106,4 +106,4 @@ returns c =
     let taken = page_taken _ ps _ fine in
     let gives = walked.walks keys.1 taken.normals in
     found_walked ps keys.0 taken.positions gives.0 gives.1
-    ∙ sym (ap found_of (search-done a.file.now ps contents.reads few keys.1 fine))
+    ∙ sym (ap found_of (search_done a.file.now ps contents.reads few keys.1 fine))

@@ -12,7 +12,7 @@ use Rattle.decimal.specs.Number.{zero_number, normal}
 use Rattle.decimal.proofs.NumberLaws.{zero_normal}
 use Rattle.rolls.specs.Falling.{at_most}
 use Rattle.rolls.specs.Searching.{max_positions, position_list}
-use Rattle.rolls.proofs.PageLaws.{nothing, positions_count, position_at, all_normal, Rising, rising_starts, rising-turns, rising-stops, rising_ends}
+use Rattle.rolls.proofs.PageLaws.{nothing, positions_count, position_at, all_normal, Rising, rising_starts, rising_turns, rising_stops, rising_ends}
 use Rattle.rolls.proofs.searching.positions_fall.Goals as goal
 
 pub loop-index-init : goal.loop-index-init
@@ -24,7 +24,7 @@ returns-then-is_fallen c =
     let l = c.loop-index in
     let current = position_at p l.index nothing c.loop-index-test.true (omega (arith, c.loop-index-test.true, c.requires.0)) in
     let is_normal = ap normal current ∙ all_normal (position_list p) c.requires.1 l.index (omega (arith, positions_count p, c.loop-index-test.true)) in
-    rising-stops _ l.invariant.2 (omega (arith, positions_count p, c.loop-index-test.true))
+    rising_stops _ l.invariant.2 (omega (arith, positions_count p, c.loop-index-test.true))
     (sym c.if-is_fallen.true
     ∙ c.is_fallen.ensures l.invariant.1 is_normal
     ∙ ap (λ (n : Number). ltb 0 l.index && not (at_most l.last n)) current)
@@ -39,7 +39,7 @@ loop-index-preserved c =
       omega (arith, c.loop-index-test.true),
       is_normal,
       subst (λ (n : Number). Rising (position_list p) (l.index + 1) n) (sym current)
-          (rising-turns _ l.invariant.2 (omega (arith, positions_count p, c.loop-index-test.true))
+          (rising_turns _ l.invariant.2 (omega (arith, positions_count p, c.loop-index-test.true))
           (sym c.if-is_fallen.false
           ∙ c.is_fallen.ensures l.invariant.1 is_normal
           ∙ ap (λ (n : Number). ltb 0 l.index && not (at_most l.last n)) current)),

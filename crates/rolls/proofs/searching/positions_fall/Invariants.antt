@@ -12,7 +12,7 @@ use Rattle.decimal.specs.Number.{zero_number, normal}
 use Rattle.decimal.proofs.NumberLaws.{zero_normal}
 use Rattle.rolls.specs.Falling.{at_most}
 use Rattle.rolls.specs.Searching.{max_positions, position_list}
-use Rattle.rolls.proofs.PageLaws.{nothing, positions_count, position_at, all_normal, Rising, rising_starts, rising-turns, rising-stops, rising_ends}
+use Rattle.rolls.proofs.PageLaws.{nothing, positions_count, position_at, all_normal, Rising, rising_starts, rising_turns, rising_stops, rising_ends}
 use Rattle.rolls.proofs.searching.positions_fall.Given as goal
 
 abbrev pub invariant-loop-index : goal.invariant-loop-index

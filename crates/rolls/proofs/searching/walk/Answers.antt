@@ -21,9 +21,9 @@ use Rattle.codec.proofs.UnpackLaws.{unpack_refused, unpack_read, unpack_at}
 use Rattle.records.proofs.LinesLaws.{body_at, part_unpacked}
 use Rattle.rolls.specs.Falling.{at_most}
 use Rattle.rolls.specs.Searching.{max_positions, position_list, check_numbers, walk, HasContents}
-use Rattle.rolls.proofs.KeyLaws.{contents_held, contents_some, keying-inside, keying-stops, keying_ends}
+use Rattle.rolls.proofs.KeyLaws.{contents_held, contents_some, keying_inside, keying_stops, keying_ends}
 use Rattle.rolls.proofs.FallLaws.{fell, not_fell, fallen_ends}
-use Rattle.rolls.proofs.WalkLaws.{Walking, walking_reads, walking-turns, walking-passes, walking_over, walking_counted, Filling, filling_starts, filling_turns, filling_ends}
+use Rattle.rolls.proofs.WalkLaws.{Walking, walking_reads, walking_turns, walking_passes, walking_over, walking_counted, Filling, filling_starts, filling_turns, filling_ends}
 use Rattle.rolls.proofs.PageLaws.{nothing, positions_count, position_at, all_normal}
 use Rattle.rolls.proofs.PassLaws.{Passing, passing_starts, key_normal, passing_turns, pass_refused, pass_done}
 use Rattle.codec.specs.declared.contents.Contents.{Contents}
@@ -71,20 +71,20 @@ overflow_add-end c =
     let a = c.args in
     let h = c.requires.0 in
     let p = c.loop-at.invariant.3 h in
-    omega (arith, keying-inside p.reads c.loop-at-test.true, (contents_held h).body)
+    omega (arith, keying_inside p.reads c.loop-at-test.true, (contents_held h).body)
 
 pub slice_bounds-unpack_under-end : goal.slice_bounds-unpack_under-end
 slice_bounds-unpack_under-end c =
     let a = c.args in
     let h = c.requires.0 in
     let p = c.loop-at.invariant.3 h in
-    omega (arith, keying-inside p.reads c.loop-at-test.true, (contents_held h).body)
+    omega (arith, keying_inside p.reads c.loop-at-test.true, (contents_held h).body)
 
 pub returns-in-Refused : goal.returns-in-Refused
 returns-in-Refused c =
     λ h.
     let refused-body = unpack_refused _ (unpacked h c.loop-at.at _ (omega arith) c.unpack_under-unpacked.ensures) c.in-Refused.is in
-    pass_refused _ (keying-stops (c.loop-at.invariant.3 h).reads c.loop-at-test.true refused-body) (ap check_meaning c.in-Refused.is)
+    pass_refused _ (keying_stops (c.loop-at.invariant.3 h).reads c.loop-at-test.true refused-body) (ap check_meaning c.in-Refused.is)
 
 pub settle-init : goal.settle-init
 settle-init c = (c.loop-at.invariant.0, c.loop-at.invariant.1, λ ks w n. w)
@@ -121,7 +121,7 @@ settle-preserved c =
       omega (arith, c.settle-test.true),
       omega (arith, c.settle.invariant.1),
       λ ks w normals.
-          walking-turns (c.settle.invariant.2 ks w normals) more (omega (arith, c.settle-test.true, c.requires.1))
+          walking_turns (c.settle.invariant.2 ks w normals) more (omega (arith, c.settle-test.true, c.requires.1))
           (sym (compared normals) ∙ c.if-not-is_at_most.false),
     )
 
@@ -133,7 +133,7 @@ loop-at-smaller c =
     let a = c.args in
     let h = c.requires.0 in
     let p = c.loop-at.invariant.3 h in
-    omega (arith, keying-inside p.reads c.loop-at-test.true, (contents_held h).body, contents_some h)
+    omega (arith, keying_inside p.reads c.loop-at-test.true, (contents_held h).body, contents_some h)
 
 pub loop-at-preserved : goal.loop-at-preserved
 loop-at-preserved c =
@@ -173,7 +173,7 @@ loop-at-preserved c =
               w.is_at_most.ensures (ap normal current ∙ all_normal ps normals c.settle.next more) key
               ∙ ap (λ (p : Number). at_most p number) current in
               subst (λ (k : ℕ). Walking ps (q.keys ++ number ∷ []) [] c.settle.next (c.loop-at.record + 1) k c.settle.records) (sym w.comparisons-is)
-              (walking-passes v more (sym compared ∙ w.if-not-is_at_most.true))
+              (walking_passes v more (sym compared ∙ w.if-not-is_at_most.true))
           ])
           (ap (λ (k : ℕ). c.loop-at.at + k) (contents_held h).body),
     )

@@ -21,9 +21,9 @@ use Rattle.codec.proofs.UnpackLaws.{unpack_refused, unpack_read, unpack_at}
 use Rattle.records.proofs.LinesLaws.{body_at, part_unpacked}
 use Rattle.rolls.specs.Falling.{at_most}
 use Rattle.rolls.specs.Searching.{max_positions, position_list, check_numbers, walk, HasContents}
-use Rattle.rolls.proofs.KeyLaws.{contents_held, contents_some, keying-inside, keying-stops, keying_ends}
+use Rattle.rolls.proofs.KeyLaws.{contents_held, contents_some, keying_inside, keying_stops, keying_ends}
 use Rattle.rolls.proofs.FallLaws.{fell, not_fell, fallen_ends}
-use Rattle.rolls.proofs.WalkLaws.{Walking, walking_reads, walking-turns, walking-passes, walking_over, walking_counted, Filling, filling_starts, filling_turns, filling_ends}
+use Rattle.rolls.proofs.WalkLaws.{Walking, walking_reads, walking_turns, walking_passes, walking_over, walking_counted, Filling, filling_starts, filling_turns, filling_ends}
 use Rattle.rolls.proofs.PageLaws.{nothing, positions_count, position_at, all_normal}
 use Rattle.rolls.proofs.PassLaws.{Passing, passing_starts, key_normal, passing_turns, pass_refused, pass_done}
 use Rattle.rolls.proofs.searching.walk.Given as goal
