@@ -1,5 +1,5 @@
 -- Laws of when a number packs under an image, and of lists of which each number does. Assumes nothing.
-use Prim.Native.Nat.{ℕ, zero, suc, ◌-◌, ◌<◌, ◌≤◌}
+use Prim.Native.Nat.{ℕ, zero, suc, ◌<◌, ◌≤◌}
 use mathlib.Core.Path.{◌≡◌, refl, ap, subst}
 use mathlib.Core.List.{List}
 use mathlib.Core.Bool.{Bool, true, false}
@@ -16,7 +16,6 @@ use Rattle.decimal.specs.Truncation.{Truncated, truncated_to, truncation, packed
 use Rattle.decimal.proofs.TruncationLaws.{truncation_fit, packed_refused, packed_signed, packed_negative, packed_unsigned}
 use Rattle.decimal.proofs.DigitLaws.{le_or_lt}
 use Rattle.codec.specs.Packing.AllPack.{none, one}
-use Rattle.codec.specs.Answers.{within}
 use Rattle.codec.specs.Packing.{PackConditions, PacksUnder, AllPack}
 
 module _ (place : ℕ) (im : Image) (n : Number) where

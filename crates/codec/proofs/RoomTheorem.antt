@@ -1,5 +1,5 @@
 -- Packing is refused with 6 exactly where there is a body and it is longer than the room. Assumes nothing.
-use Prim.Native.Nat.{ℕ, zero, suc, ◌+◌, ◌-◌, ◌<◌, ◌≤◌}
+use Prim.Native.Nat.{ℕ, zero, suc, ◌<◌, ◌≤◌}
 use mathlib.Core.Path.{◌≡◌, refl, sym, ◌∙◌, subst}
 use mathlib.Core.List.{List, [], ◌∷◌, ◌++◌}
 use mathlib.Core.Bool.{Bool, true, false, not, ◌&&◌}
@@ -20,7 +20,6 @@ use Rattle.decimal.proofs.AnswerLaws.{never}
 use Rattle.decimal.proofs.DigitLaws.{le_or_lt}
 use Rattle.codec.specs.Lists.{max_columns}
 use Rattle.codec.specs.Contents.{read_column, column_length, read_columns, read_contents, read_alone}
-use Rattle.codec.specs.Packing.AllPack.{none, one}
 use Rattle.codec.specs.Answers.{within}
 use Rattle.codec.specs.Packing.{column_bytes, pack_columns, pack_list, body_of, packing}
 

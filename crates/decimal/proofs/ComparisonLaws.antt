@@ -10,7 +10,7 @@ use Rattle.decimal.specs.Number.{normal, magnitude}
 use Rattle.decimal.specs.Comparison.{whole_order, signed_order, value_order, comparison}
 use Rattle.decimal.proofs.PowerLaws.{pow10_pos}
 use Rattle.decimal.proofs.DigitLaws.{le_or_lt}
-use Rattle.decimal.proofs.NumberLaws.{InRange, normal_range, normal_is_zero, check_normal, check_abnormal}
+use Rattle.decimal.proofs.NumberLaws.{normal_range, normal_is_zero, check_normal, check_abnormal}
 use Rattle.decimal.proofs.MagnitudeLaws.{exponent_decides, zero_magnitude, range_positive}
 
 -- Whole numbers.

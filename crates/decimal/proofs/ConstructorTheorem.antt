@@ -1,18 +1,18 @@
 -- Each constructor of numbers gives each of its answers exactly where it is due. Assumes nothing.
-use Rattle.std.proofs.Common.{◌≡◌, ℕ, suc, ◌+◌, ◌-◌, ◌*◌, ◌^◌, ◌<◌, ◌≤◌, Bool, true, false, not, ◌&&◌, T, eqb, ◌⊎◌, ◌↔◌, ℤ, pos, negsuc, ◌+ℤ◌, ◌-ℤ◌, sym, refl, ap, ◌∙◌, subst, inl, inr, ⊎_elim, le_trans, lt_of_lt_of_le, lt_irrefl, mul-le-mul_right, mul_assoc, mul_comm, mul-lt-mul_of_pos_right, zero-mul, mul-one, arith, eq-eqb, ne_eqb}
+use Rattle.std.proofs.Common.{◌≡◌, ℕ, suc, ◌+◌, ◌-◌, ◌*◌, ◌^◌, ◌<◌, ◌≤◌, Bool, true, false, not, ◌&&◌, T, eqb, ◌⊎◌, ℤ, pos, negsuc, ◌+ℤ◌, ◌-ℤ◌, sym, refl, ap, ◌∙◌, subst, inl, inr, ⊎_elim, le_trans, lt_of_lt_of_le, lt_irrefl, mul-le-mul_right, mul_assoc, mul_comm, mul-lt-mul_of_pos_right, zero-mul, mul-one, arith, eq-eqb, ne_eqb}
 use native.Mathlib.Nat.{eq_of_mul-eq-mul_left}
 use lib.IntN.{+ℤ-neg_ℤ_cancel, -ℤ-+ℤ_cancel}
 use lib.Signed.{lt_z_no}
 use Rattle.decimal.specs.declared.number.Number.{Number}
 use Rattle.decimal.specs.Answer.{Answer, done, refused}
 use Rattle.decimal.specs.Digits.{precision, leading_zeros}
-use Rattle.decimal.specs.Number.{exponent_limit, zero_number, normal, magnitude, exponent_of, unit, check_number, held_number, parts_number, scaled_number, steps_number}
+use Rattle.decimal.specs.Number.{exponent_limit, zero_number, normal, magnitude, exponent_of, unit, check_number, held_number, parts_number, scaled_number}
 use Rattle.decimal.specs.Constructors.{IsParts, PartsExactly, IsScaled, ScaledOutside, too_small, too_large, ScaledExactly, IsSteps, StepsExactly}
 use Rattle.decimal.proofs.AnswerLaws.{never, one_answer}
 use Rattle.decimal.proofs.PowerLaws.{pow10_pos, pow10_add, pow10_mono, times_power}
 use Rattle.decimal.proofs.DigitLaws.{le_or_lt, leading_low, leading_top}
 use Rattle.decimal.proofs.NumberLaws.{check_normal, check_abnormal, normal_top, number_path, scaled_too_long, scaled_zero, scaled_shifted, shifted_below, shifted_above, shifted_done}
-use Rattle.decimal.proofs.PartsLaws.{HeldAs, parts_held, parts_below, parts_above}
+use Rattle.decimal.proofs.PartsLaws.{parts_held, parts_below, parts_above}
 use Rattle.decimal.proofs.MagnitudeLaws.{normal_unique, scaled_normal, scaled_magnitude, scaled_sign, scaled_refused_five}
 
 -- A sign, a mantissa and an exponent.

@@ -1,6 +1,6 @@
 -- What a number means: a magnitude and a sign are those of one normal number, and the scaled number has the magnitude meant.
 -- Assumes nothing.
-use Rattle.std.proofs.Common.{◌≡◌, ℕ, suc, ◌+◌, ◌-◌, ◌*◌, ◌^◌, ◌<◌, ◌≤◌, Bool, true, false, ◌⊎◌, sym, refl, ap, ◌∙◌, inl, inr, ⊎_elim, mul-le-mul_right, mul_assoc, mul_comm, mul-le-mul, le_antisymm, mul-lt-mul_of_pos_right, zero-mul, arith}
+use Rattle.std.proofs.Common.{◌≡◌, ℕ, suc, ◌+◌, ◌-◌, ◌*◌, ◌^◌, ◌<◌, ◌≤◌, Bool, true, ◌⊎◌, sym, refl, ap, ◌∙◌, inl, inr, ⊎_elim, mul-le-mul_right, mul_assoc, mul_comm, mul-le-mul, le_antisymm, mul-lt-mul_of_pos_right, zero-mul, arith}
 use native.Mathlib.Nat.{one-le-mul, eq_of_mul-eq-mul_left}
 use Rattle.decimal.specs.declared.number.Number.{Number}
 use Rattle.decimal.specs.Answer.{Answer, done, refused}

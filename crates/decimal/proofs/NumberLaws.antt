@@ -8,7 +8,7 @@ use Rattle.decimal.specs.Digits.{precision, leading_zeros}
 use Rattle.decimal.proofs.BoolLaws.{and_true}
 use Rattle.decimal.proofs.PowerLaws.{pow10_pos, pow10_add, times_power}
 use Rattle.decimal.proofs.DigitLaws.{le_or_lt, leading_shift, leading_fewer, leading_at_most}
-use Rattle.decimal.specs.Number.{exponent_limit, zero_number, largest_number, normal, check_number, shifted_number, scaled_number, shift_where, shift_past}
+use Rattle.decimal.specs.Number.{exponent_limit, zero_number, largest_number, normal, check_number, shifted_number, scaled_number, shift_past}
 
 -- Normal form.
 

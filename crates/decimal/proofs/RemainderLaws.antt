@@ -4,7 +4,7 @@ use native.Mathlib.Nat.{zero-mod, one-le-mul}
 use Rattle.decimal.specs.declared.number.Number.{Number}
 use Rattle.decimal.specs.declared.image.Image.{Image}
 use Rattle.decimal.specs.declared.remainder.Remainder.{Remainder}
-use Rattle.decimal.specs.Answer.{◌then◌, done, refused}
+use Rattle.decimal.specs.Answer.{done, refused}
 use Rattle.decimal.specs.Digits.{precision}
 use Rattle.decimal.specs.Number.{exponent_limit, magnitude, scale, unit}
 use Rattle.decimal.specs.Truncation.{whole_of, stored_exponent, truncated_to, truncation, Fit, kept_count, dropped_count, kept_number, number_of}

@@ -128,7 +128,8 @@ pub fn fit_packed(image: Image, number: Number, place: usize) -> CheckAnswer
     if is_signed(sign) {
         return CheckAnswer::Fine;
     }
-    if stored_exponent(image, number) < EXPONENT_LIMIT {
+    let below = stored_exponent(image, number) < EXPONENT_LIMIT;
+    if below {
         return refused(EXPONENT_OUTSIDE, place);
     }
     CheckAnswer::Fine

@@ -1,7 +1,7 @@
 -- What each arm of the scanner's tests gives, by the states that it is taken for. Assumes nothing.
 use mathlib.Core.Path.{◌≡◌, refl}
 use mathlib.Core.Bool.{Bool, true, false}
-use mathlib.Core.List.{List, [], ◌∷◌}
+use mathlib.Core.List.{[], ◌∷◌}
 use Rattle.decimal.specs.declared.image.State.{State as CodeState}
 use Rattle.decimal.specs.Image.{state_of}
 use Rattle.decimal.proofs.StateLaws.{Arm, arm, none}

@@ -9,24 +9,24 @@ use mathlib.Core.List.{List, [], ◌∷◌, ◌++◌}
 use mathlib.Core.Bool.{Bool, true, false}
 use lib.Dec.{eqb}
 use lib.ListN.{length, take, drop, get_or, set, drop_of_length-le, length-drop}
-use lib.Seq.{drop-cons, drop-drop, length-take-le, take-suc, take_all, get_or-take, get_or-drop}
+use lib.Seq.{drop-cons, drop-drop, length-take-le, take_all, get_or-take, get_or-drop}
 use borrow.Author.Tests.{eq-eqb, ne_eqb}
 use Rattle.decimal.specs.declared.image.Sign.{Sign}
 use Rattle.decimal.specs.Image.{Start, Stopped}
 use Rattle.decimal.specs.declared.refusal.CheckAnswer.TheVariants as answers
-use Rattle.decimal.specs.Answer.{Answer, done, refused, pick}
+use Rattle.decimal.specs.Answer.{done, refused, pick}
 use Rattle.decimal.proofs.AnswerLaws.{never}
 use Rattle.decimal.specs.Digits.{precision}
 use Rattle.decimal.specs.Image.{plus_byte, minus_byte, hash_byte, point_byte, comma_byte, up_byte, hashes, next_state, sign_of, leading_sign, scanned_image}
 use Rattle.decimal.proofs.DigitLaws.{le_or_lt}
 use Rattle.decimal.proofs.ImageLaws.{first_sign}
 use Rattle.codec.specs.Lists.{filled}
-use Rattle.codec.proofs.ListLaws.{filled_length, filled_at, filled_set}
+use Rattle.codec.proofs.ListLaws.{filled_at, filled_set}
 use Rattle.records.specs.declared.finding.Field.{Field}
 use Rattle.records.specs.declared.finding.Fields.{Fields}
 use Rattle.records.specs.declared.scanning.Scanned.{Scanned}
 use Rattle.records.specs.Scanning.{longest_from, field_length, scanned_field}
-use Rattle.records.specs.Printing.{max_line, literals, check_fields, Reached, at_start, after_field}
+use Rattle.records.specs.Printing.{literals, check_fields, Reached, at_start, after_field}
 use Rattle.records.specs.Finding.{field_of, fields_from, fields_at, line_fields, max_fields, no_field, LiteralAlways, Skipped, Listed, FieldsFound}
 use Rattle.records.proofs.ScanLaws.{stopped_none}
 use Rattle.records.proofs.FieldTheorem.{longest_field}

@@ -9,7 +9,7 @@ use mathlib.Core.Bool.{Bool, true, false}
 use lib.ListN.{length, take, length-append, length-drop}
 use lib.Seq.{length-take-le}
 use borrow.Author.Tests.{ltb-true}
-use Rattle.decimal.specs.Answer.{Answer, done, refused, ◌then◌, pick}
+use Rattle.decimal.specs.Answer.{Answer, done, refused, pick}
 use Rattle.decimal.proofs.AnswerLaws.{then_last}
 use Rattle.records.specs.declared.fields.Element.{Element}
 use Rattle.records.specs.Scanning.{Field, IsField, field_length}

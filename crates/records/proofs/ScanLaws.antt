@@ -15,7 +15,6 @@ use Rattle.decimal.specs.Answer.{pick}
 use Rattle.decimal.specs.Image.{next_state, run_state, integer_hash, fraction_hash, is_exponential, counted, integers_from, fractions_from, scanned_image}
 use Rattle.decimal.proofs.ImageLaws.{hash_once}
 use Rattle.decimal.proofs.ImageTails.{stopped_stays}
-use Rattle.records.specs.declared.scanning.Scanned.{Scanned}
 use Rattle.records.specs.Scanning.{is_field_state, is_stopped, longest_from, field_length, scanned_field}
 
 -- what is found later, else the best so far

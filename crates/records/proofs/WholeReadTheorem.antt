@@ -7,7 +7,7 @@ use mathlib.Core.List.{List, [], ◌∷◌}
 use lib.ListN.{length}
 use Rattle.decimal.specs.declared.image.Image.{Image}
 use Rattle.decimal.specs.declared.number.Number.{Number}
-use Rattle.decimal.specs.Answer.{Answer, done, ◌then◌}
+use Rattle.decimal.specs.Answer.{done}
 use Rattle.codec.specs.Text.{read_text, read_texts}
 use Rattle.codec.proofs.ReadingTheorem.{whole_text, texts_whole}
 use Rattle.records.specs.declared.marks.Marks.{Marks}

@@ -1,6 +1,5 @@
 -- Document 01, Known values: the rows marked *, stated over the definitions that the calls promise, and computed from the rules.
 use Rattle.std.specs.Prelude.{ℕ, ◌≡◌, refl, List, [], ◌∷◌, ◌++◌, Bool, true, false, length}
-use Rattle.decimal.specs.declared.number.Number.{Number}
 use Rattle.decimal.specs.Answer.{Answer, done, refused, ◌then◌}
 use Rattle.decimal.specs.Digits.{digits_of, value_of, zeros, leading_zeros}
 use Rattle.decimal.specs.Number.{normal, magnitude, check_number, shifted_number, scaled_number}

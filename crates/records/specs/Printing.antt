@@ -1,6 +1,5 @@
 -- Document 01, Print lines: a line image with its elements.
 use Rattle.std.specs.Prelude.{ℕ, zero, suc, pred, ◌+◌, ◌*◌, ◌<◌, ◌≤◌, ◌≡◌, List, [], ◌∷◌, ◌++◌, Bool, ◌&&◌, length, take, drop, ltb, leb, eqb}
-use Rattle.decimal.specs.declared.number.Number.{Number}
 use Rattle.decimal.specs.Answer.{Answer, done, refused, ◌then◌, pick}
 use Rattle.decimal.specs.Digits.{precision}
 use Rattle.decimal.specs.Number.{normal, zero_number}

@@ -207,7 +207,8 @@ pub fn print(
     if let CheckAnswer::Refused(refusal) = answer {
         return PrintAnswer::Refused(refusal);
     }
-    if 0 < count {
+    let has_elements = 0 < count;
+    if has_elements {
         if found.count == 0 {
             return not_printed(NO_FIELD);
         }

@@ -1,9 +1,4 @@
 -- `sign_byte` meets its contract. Assumes nothing.
-use Prim.Native.Nat.{◌<◌}
-use mathlib.Core.Path.{subst}
-use native.Mathlib.Omega.{arith}
-use Rattle.decimal.specs.declared.image.Sign.{Sign}
-use Rattle.codec.specs.Columns.{sign_count}
 use Rattle.codec.specs.Alpha.{sign_text}
 use Rattle.codec.proofs.AlphaLaws.{sign_minus}
 use borrow.Author.Rules.{rules}

@@ -3,7 +3,6 @@ use native.Mathlib.Omega.{arith}
 use Rattle.codec.specs.Alpha.{text_length, tail_length}
 use Rattle.codec.proofs.AlphaLaws.{fraction_few, exponent_few}
 use Rattle.codec.proofs.ContentsLaws.{sign_few}
-use borrow.Author.Rules.{rules}
 use Rattle.codec.proofs.alpha.text_length.Goals as goal
 
 pub overflow_add-tail : goal.overflow_add-tail

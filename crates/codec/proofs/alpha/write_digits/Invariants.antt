@@ -1,13 +1,11 @@
 -- `write_digits` meets its contract. The loop's invariant: the first k bytes are written over the buffer's, and its length is the same.
 -- The measure is what is left of the count. Assumes nothing.
-use Prim.Native.Nat.{ℕ, ◌+◌, ◌-◌, ◌*◌, ◌/◌, ◌^◌, ◌≤◌}
-use mathlib.Core.Path.{◌≡◌, refl, ap, sym, ◌∙◌}
-use native.Mathlib.Omega.{arith}
-use lib.Bits.{and_mask, mask_lt}
-use lib.ListN.{length, length-set}
+use Prim.Native.Nat.{◌-◌, ◌≤◌}
+use mathlib.Core.Path.{◌≡◌}
+use lib.ListN.{length}
 use Rattle.decimal.specs.Digits.{halves_in}
-use Rattle.codec.specs.Alpha.{zero_byte, digit_bytes}
-use Rattle.codec.proofs.AlphaLaws.{written_to, written_starts, written_turns, written_ends, half_bytes_length, half_byte_at}
+use Rattle.codec.specs.Alpha.{digit_bytes}
+use Rattle.codec.proofs.AlphaLaws.{written_to}
 use Rattle.codec.proofs.alpha.write_digits.Given as goal
 
 abbrev pub invariant-loop-k : goal.invariant-loop-k

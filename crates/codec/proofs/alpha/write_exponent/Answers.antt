@@ -2,8 +2,6 @@
 use Prim.Native.Nat.{◌≤◌}
 use mathlib.Core.Path.{ap, ◌∙◌}
 use native.Mathlib.Omega.{arith}
-use lib.ListN.{length-set}
-use borrow.Author.Rules.{rules}
 use Rattle.decimal.specs.Number.{exponent_limit}
 use Rattle.codec.specs.Answers.{written}
 use Rattle.codec.specs.Alpha.{exponent_byte}

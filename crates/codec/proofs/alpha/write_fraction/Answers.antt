@@ -2,7 +2,6 @@
 use mathlib.Core.Path.{ap, ◌∙◌}
 use native.Mathlib.Omega.{arith}
 use lib.ListN.{length-set}
-use borrow.Author.Rules.{rules}
 use Rattle.decimal.specs.Digits.{precision, value_of, halves_in}
 use Rattle.decimal.specs.Image.{point_byte}
 use Rattle.decimal.proofs.PackedLaws.{last_halves}
@@ -13,7 +12,7 @@ pub returns-then-fraction-eq0 : goal.returns-then-fraction-eq0
 returns-then-fraction-eq0 c =
     let a = c.args in
     let whole = value_of (halves_in precision a.halves) in
-    record { place = omega (arith, fraction_none a.fraction c.if-fraction-eq0.true); bytes = fraction_unwritten a.buffer.now a.at a.fraction whole c.if-fraction-eq0.true; }
+    record { place = omega (arith, fraction_none a.fraction c.if-fraction-eq0.true); bytes = fraction_unwritten a.buffer.now a.at a.fraction whole c.if-fraction-eq0.true }
 
 pub bounds-buffer-at : goal.bounds-buffer-at
 bounds-buffer-at c = let a = c.args in omega (arith, fraction_some a.fraction c.if-fraction-eq0.false)

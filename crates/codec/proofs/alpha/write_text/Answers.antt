@@ -1,14 +1,12 @@
 -- `write_text` meets its contract: the parts of the text are written one behind the other. Assumes nothing.
 use Prim.Native.Nat.{ℕ, ◌*◌, ◌/◌, ◌^◌}
-use mathlib.Core.Path.{◌≡◌, ap, ◌∙◌}
+use mathlib.Core.Path.{ap, ◌∙◌}
 use native.Mathlib.Omega.{arith}
-use borrow.Author.Rules.{rules}
 use Rattle.decimal.specs.Digits.{precision, halves_in}
 use Rattle.decimal.proofs.PackedLaws.{shifted_halves}
-use Rattle.codec.specs.Answers.{written}
 use Rattle.codec.specs.Packing.{held_by}
 use Rattle.codec.specs.Alpha.{text_length, tail_length, exponent_length}
-use Rattle.codec.proofs.AlphaLaws.{front_text, fixed_text, integer_step, fraction_step, fixed_end, exponent_end}
+use Rattle.codec.proofs.AlphaLaws.{integer_step, fraction_step, fixed_end, exponent_end}
 use Rattle.codec.proofs.ContentsLaws.{sign_few}
 use Rattle.codec.proofs.alpha.write_text.Goals as goal
 
@@ -26,12 +24,11 @@ overflow_add-start c = omega (arith, c.write_sign-start.ensures.place, sign_few 
 
 pub write_fraction-end-requires : goal.write_fraction-end-requires
 unfolding text_length tail_length
-write_fraction-end-requires c =
-    (
-      omega (arith, c.requires.0.size),
-      omega (arith, c.requires.1, c.write_sign-start.ensures.place, c.write_sign-start.auto.buffer, c.write_digits.auto.buffer),
-      c.requires.0.digits,
-    )
+write_fraction-end-requires c = (
+  omega (arith, c.requires.0.size),
+  omega (arith, c.requires.1, c.write_sign-start.ensures.place, c.write_sign-start.auto.buffer, c.write_digits.auto.buffer),
+  c.requires.0.digits,
+)
 
 pub write_exponent-requires : goal.write_exponent-requires
 unfolding text_length tail_length exponent_length

@@ -1,14 +1,12 @@
 -- `written_part` meets its contract: the buffer's first bytes, as many as the answer says, where it has them. Assumes nothing.
 use Prim.Native.Nat.{ℕ, ◌≤◌, ◌<◌}
-use mathlib.Core.Path.{◌≡◌, ap, sym, ◌∙◌}
+use mathlib.Core.Path.{◌≡◌, ap, sym}
 use mathlib.Core.List.{List, []}
 use native.Mathlib.Omega.{arith}
 use borrow.Author.Tests.{lt-ltb, le-ltb}
 use lib.ListN.{length, take}
-use lib.Seq.{length-take-le}
 use Rattle.decimal.specs.Answer.{Answer, done, refused}
 use Rattle.codec.specs.Answers.{write_meaning, written_part}
-use borrow.Author.Rules.{rules}
 use Rattle.codec.proofs.answers.written_part.Goals as goal
 
 -- a refused call wrote nothing

@@ -1,10 +1,7 @@
 -- `column_size` meets its contract: half the count of halves, which is few. Assumes nothing.
 use mathlib.Core.Path.{ap}
 use Prim.Native.Nat.{ℕ, ◌+◌, ◌/◌, ◌%◌}
-use native.Mathlib.Omega.{arith}
 use Rattle.codec.specs.Columns.{column_size}
-use Rattle.codec.proofs.ContentsLaws.{halves_few}
-use borrow.Author.Rules.{rules}
 use Rattle.codec.proofs.columns.column_size.Goals as goal
 
 pub returns : goal.returns

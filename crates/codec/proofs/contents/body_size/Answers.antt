@@ -1,10 +1,9 @@
 -- `body_size` meets its contract. The loop's invariant: the size so far is that of the columns before, each of at most 9 bytes.
 -- The measure is what is left of count. Assumes nothing.
-use Prim.Native.Nat.{ℕ, ◌-◌, ◌*◌, ◌≤◌}
+use Prim.Native.Nat.{ℕ}
 use mathlib.Core.Path.{◌≡◌, refl, ap, sym, subst, ◌∙◌}
 use native.Mathlib.Omega.{arith}
-use borrow.Author.Rules.{rules}
-use lib.ListN.{length, take, length-map}
+use lib.ListN.{length, take}
 use Rattle.codec.specs.Lists.{max_columns, no_image}
 use Rattle.codec.specs.Columns.{body_size, AllChecked}
 use Rattle.codec.proofs.ContentsLaws.{checked_front, column_few}

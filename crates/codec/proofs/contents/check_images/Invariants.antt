@@ -1,14 +1,10 @@
 -- `check_images` meets its contract. The loop's invariant: the images that are left are refused as all of them are.
 -- The measure is what is left of count. Assumes nothing.
 use Prim.Native.Nat.{◌-◌, ◌≤◌}
-use mathlib.Core.Path.{◌≡◌, ap, sym, ◌∙◌}
-use native.Mathlib.Omega.{arith}
-use borrow.Author.Rules.{rules}
-use lib.ListN.{length, take, drop, length-map}
-use Rattle.decimal.specs.Image.{image_meaning}
-use Rattle.codec.specs.Lists.{max_columns, no_image, image_list}
+use mathlib.Core.Path.{◌≡◌}
+use lib.ListN.{take, drop}
+use Rattle.codec.specs.Lists.{image_list}
 use Rattle.codec.specs.Contents.{check_each, check_images}
-use Rattle.codec.proofs.UnderLaws.{count_none, count_many, count_each, each_turn, each_refused, each_end}
 use Rattle.codec.proofs.contents.check_images.Given as goal
 
 abbrev pub invariant-loop-column : goal.invariant-loop-column

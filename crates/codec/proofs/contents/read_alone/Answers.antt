@@ -3,7 +3,6 @@ use mathlib.Core.Path.{ap, sym, ◌∙◌}
 use native.Mathlib.Omega.{arith}
 use Rattle.codec.specs.Contents.{contents_of}
 use Rattle.codec.proofs.ContentsLaws.{alone_stops, alone_whole, alone_long}
-use borrow.Author.Rules.{rules}
 use Rattle.codec.proofs.contents.read_alone.Goals as goal
 
 pub returns-in-Refused : goal.returns-in-Refused

@@ -7,7 +7,6 @@ use lib.ListN.{take, drop, get_or}
 use Rattle.decimal.specs.Answer.{◌then◌}
 use Rattle.decimal.specs.Image.{read_image, image_meaning}
 use Rattle.codec.proofs.ContentsLaws.{column_none, column_short, column_read}
-use borrow.Author.Rules.{rules}
 use Rattle.codec.proofs.contents.read_column.Goals as goal
 
 pub returns-then-bytes-at : goal.returns-then-bytes-at

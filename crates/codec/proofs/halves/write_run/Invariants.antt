@@ -1,17 +1,11 @@
 -- `write_run` meets its contract. The loop's invariant: the first k of the run's bytes are written, from the place on.
 -- The measure is what is left of the bytes. Assumes nothing.
-use Prim.Native.Nat.{ℕ, ◌+◌, ◌-◌, ◌*◌, ◌/◌, ◌^◌, ◌≤◌, ◌<◌}
-use mathlib.Core.Path.{◌≡◌, refl, ◌∙◌}
-use mathlib.Core.List.{List}
-use native.Mathlib.Omega.{arith}
-use native.Mathlib.Numerals.{add-one}
-use lib.Bits.{bit_and, and_mask, mask_lt}
-use lib.ListN.{length, set, length-set}
-use lib.Seq.{paste, paste-zero, paste-suc}
+use Prim.Native.Nat.{◌-◌, ◌*◌, ◌≤◌}
+use mathlib.Core.Path.{◌≡◌}
+use lib.ListN.{length}
+use lib.Seq.{paste}
 use Rattle.decimal.specs.Digits.{halves_in}
 use Rattle.codec.specs.Halves.{pack_halves}
-use Rattle.codec.proofs.BufferLaws.{written_pasted}
-use Rattle.codec.proofs.RunLaws.{run_length, run_at}
 use Rattle.codec.proofs.halves.write_run.Given as goal
 
 abbrev pub invariant-loop-k : goal.invariant-loop-k

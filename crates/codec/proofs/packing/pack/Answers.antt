@@ -2,7 +2,6 @@
 use Prim.Native.Nat.{ℕ}
 use mathlib.Core.Path.{◌≡◌, ap, sym, ◌∙◌}
 use mathlib.Core.List.{List}
-use borrow.Author.Rules.{rules}
 use lib.ListN.{length}
 use Rattle.decimal.specs.Answer.{Answer}
 use Rattle.codec.specs.Answers.{stored_in, sized}
@@ -28,7 +27,7 @@ returns-in-Refused c =
     let refusal =
     packing_contents a.contents.now (list_of a.numbers) (length a.buffer.now)
     (alone_refused _ r.read_alone-table.result _ r.read_alone-table.ensures c.in-Refused.is) in
-    record { answer = sym (ap sized refusal); bytes = sym (ap (λ (k : Answer (List ℕ)). stored_in k a.buffer.now) refusal); }
+    record { answer = sym (ap sized refusal); bytes = sym (ap (λ (k : Answer (List ℕ)). stored_in k a.buffer.now) refusal) }
 
 pub returns : goal.returns
 returns c =
@@ -38,4 +37,4 @@ returns c =
     let a = r.args in
     let same =
     packing_lent a.contents.now r.read_alone-table.result r.read_alone-table.ensures t.in_default.is (list_of a.numbers) (length a.buffer.now) in
-    let all = passes a.buffer.now (sym same) (p.ensures.answer, p.ensures.bytes) in record { answer = all.0; bytes = all.1; }
+    let all = passes a.buffer.now (sym same) (p.ensures.answer, p.ensures.bytes) in record { answer = all.0; bytes = all.1 }

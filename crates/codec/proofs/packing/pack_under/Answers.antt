@@ -1,12 +1,11 @@
 -- `pack_under` meets its contract: refused as the images, the list, the numbers from the left and the room are, in that order; else the
 -- body is written. The first loop's invariant: what is left is refused as the whole is; the second's: the columns so far are written from
 -- the buffer's start on, and the list packs. The measures are what is left of the columns. Assumes nothing.
-use Prim.Native.Nat.{ℕ, ◌-◌, ◌<◌, ◌≤◌}
+use Prim.Native.Nat.{ℕ, ◌<◌, ◌≤◌}
 use mathlib.Core.Path.{◌≡◌, refl, ap, sym, ◌∙◌}
 use mathlib.Core.List.{List}
 use native.Mathlib.Omega.{arith}
-use borrow.Author.Rules.{rules}
-use lib.ListN.{length, take, drop, length-map}
+use lib.ListN.{length, take}
 use Rattle.decimal.specs.declared.image.Image.{Image}
 use Rattle.decimal.specs.declared.number.Number.{Number}
 use Rattle.decimal.specs.Answer.{Answer, done, refused, check_meaning, checked_only}
@@ -133,7 +132,7 @@ returns-in-Refused c =
     let k = c in
     let a = k.args in
     let all = refuses (image_list a.images) (list_of a.numbers) a.buffer.now refl
-    (under_images _ _ _ (sym k.check_images.ensures ∙ ap check_meaning c.in-Refused.is)) in record { answer = all.0; bytes = all.1; }
+    (under_images _ _ _ (sym k.check_images.ensures ∙ ap check_meaning c.in-Refused.is)) in record { answer = all.0; bytes = all.1 }
 
 pub returns-then-numbers-count : goal.returns-then-numbers-count
 returns-then-numbers-count c =
@@ -144,7 +143,7 @@ returns-then-numbers-count c =
     let good = sym k.check_images.ensures ∙ ap check_meaning t.in_default.is in
     let all = refuses (image_list a.images) (list_of a.numbers) a.buffer.now c.not_written.ensures
     (under_length (image_list a.images) (list_of a.numbers) (length a.buffer.now) good
-    (λ e. c.if-numbers-count.true (sym (list_length a.numbers) ∙ e ∙ image_count a.images))) in record { answer = all.0; bytes = all.1; }
+    (λ e. c.if-numbers-count.true (sym (list_length a.numbers) ∙ e ∙ image_count a.images))) in record { answer = all.0; bytes = all.1 }
 
 pub loop-checked-init : goal.loop-checked-init
 loop-checked-init c =
@@ -171,7 +170,7 @@ returns-in-Refused-fit_packed c =
     let refused = sym f.fit_packed.ensures ∙ ap check_meaning c.in-Refused-fit_packed.is in
     let all = refuses (image_list a.images) (list_of a.numbers) a.buffer.now refl
     (list_refused a.images a.numbers i.2 good e.if-numbers-count.false i.3 (length a.buffer.now)
-    (i.4 ∙ columns_refused a.images.count a.images.values a.numbers.values l.loop-checked.checked _ _ (omega arith) (omega arith) (omega arith) refused)) in record { answer = all.0; bytes = all.1; }
+    (i.4 ∙ columns_refused a.images.count a.images.values a.numbers.values l.loop-checked.checked _ _ (omega arith) (omega arith) (omega arith) refused)) in record { answer = all.0; bytes = all.1 }
 
 pub loop-checked-preserved : goal.loop-checked-preserved
 loop-checked-preserved c =
@@ -214,7 +213,7 @@ returns-then-buffer-size c =
     let i = l.loop-checked.invariant in
     let packs = list_packs a.images a.numbers i.2 good e.if-numbers-count.false i.3 (i.4 ∙ columns_end a.images.count l.loop-checked.checked a.images.values _ (omega arith)) in
     let all = refuses (image_list a.images) (list_of a.numbers) a.buffer.now c.not_written-then-buffer-size.ensures
-    (no_room a.images a.numbers i.2 good e.if-numbers-count.false i.3 packs z.body_size-size.ensures (length a.buffer.now) (omega (arith, c.if-buffer-size.true))) in record { answer = all.0; bytes = all.1; }
+    (no_room a.images a.numbers i.2 good e.if-numbers-count.false i.3 packs z.body_size-size.ensures (length a.buffer.now) (omega (arith, c.if-buffer-size.true))) in record { answer = all.0; bytes = all.1 }
 
 pub loop-column-init : goal.loop-column-init
 unfolding bytes_of body_size
@@ -300,4 +299,4 @@ returns c =
     let all : m.loop-column.column ≡ a.images.count = omega arith in
     let all = writes a.images a.numbers i.2 good e.if-numbers-count.false i.3 j.7 z.body_size-size.ensures a.buffer.now
     (omega (arith, m.if-buffer-size.false))
-    (j.3 ∙ ap (λ (k : ℕ). written a.buffer.now 0 (bytes_of (take k a.images.values) (take k a.numbers.values))) all) in record { answer = all.0; bytes = all.1; }
+    (j.3 ∙ ap (λ (k : ℕ). written a.buffer.now 0 (bytes_of (take k a.images.values) (take k a.numbers.values))) all) in record { answer = all.0; bytes = all.1 }

@@ -2,7 +2,6 @@
 use Prim.Native.Nat.{◌+◌, ◌/◌}
 use mathlib.Core.Path.{◌≡◌}
 use native.Mathlib.Omega.{arith}
-use borrow.Author.Rules.{rules}
 use Rattle.decimal.specs.Image.{hashes}
 use Rattle.codec.specs.Columns.{sign_count}
 use Rattle.codec.proofs.FitLaws.{truncation_held}

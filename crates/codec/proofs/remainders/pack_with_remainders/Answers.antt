@@ -1,13 +1,13 @@
 -- `pack_with_remainders` meets its contract: packing's own answer and bytes, and the remainders of the columns that it packed. The loop's
 -- invariant: the remainders of the columns so far stand in the array, zero's behind them. The measure is what is left of the columns.
 -- Assumes nothing.
-use Prim.Native.Nat.{ℕ, ◌-◌, ◌≤◌}
+use Prim.Native.Nat.{ℕ}
 use mathlib.Core.Path.{◌≡◌, refl, ap, sym, ◌∙◌, subst}
 use mathlib.Core.List.{List}
 use native.Mathlib.Omega.{arith}
 use borrow.Author.Rules.{rules}
-use lib.ListN.{length, take, length-map}
-use Rattle.decimal.specs.Answer.{Answer, given}
+use lib.ListN.{length, take}
+use Rattle.decimal.specs.Answer.{Answer}
 use Rattle.decimal.specs.Remainder.{zero_remainder}
 use Rattle.codec.specs.Answers.{stored_in, sized}
 use Rattle.codec.specs.Lists.{filled, list_of, max_columns}

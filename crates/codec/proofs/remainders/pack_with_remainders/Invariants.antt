@@ -1,21 +1,12 @@
 -- `pack_with_remainders` meets its contract: packing's own answer and bytes, and the remainders of the columns that it packed. The loop's
 -- invariant: the remainders of the columns so far stand in the array, zero's behind them. The measure is what is left of the columns.
 -- Assumes nothing.
-use Prim.Native.Nat.{ℕ, ◌-◌, ◌≤◌}
-use mathlib.Core.Path.{◌≡◌, refl, ap, sym, ◌∙◌, subst}
-use mathlib.Core.List.{List}
-use native.Mathlib.Omega.{arith}
-use borrow.Author.Rules.{rules}
-use lib.ListN.{length, take, length-map}
-use Rattle.decimal.specs.Answer.{Answer, given}
+use Prim.Native.Nat.{◌-◌, ◌≤◌}
+use mathlib.Core.Path.{◌≡◌}
+use lib.ListN.{length, take}
 use Rattle.decimal.specs.Remainder.{zero_remainder}
-use Rattle.codec.specs.Answers.{stored_in, sized}
-use Rattle.codec.specs.Lists.{filled, list_of, max_columns}
-use Rattle.codec.specs.Remainders.{remainders_of}
-use Rattle.codec.proofs.ContentsLaws.{alone_refused}
-use Rattle.codec.proofs.UnderLaws.{packing_lent}
-use Rattle.codec.proofs.BodyLaws.{packing_contents}
-use Rattle.codec.proofs.RemainderLaws.{left_of, refused_none, Left, left_found, left_turn, left_answer}
+use Rattle.codec.specs.Lists.{filled, max_columns}
+use Rattle.codec.proofs.RemainderLaws.{left_of, Left}
 use Rattle.codec.proofs.remainders.pack_with_remainders.Given as goal
 
 abbrev pub invariant-loop-column : goal.invariant-loop-column

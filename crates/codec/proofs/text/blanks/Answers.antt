@@ -1,10 +1,6 @@
 -- `blanks` meets its contract. The loop's invariant: the blanks passed and those from here on are those from the place on.
 -- The measure is what is left of the length. Assumes nothing.
-use Prim.Native.Nat.{◌+◌, ◌-◌, ◌≤◌}
-use mathlib.Core.Path.{◌≡◌}
 use native.Mathlib.Omega.{arith}
-use lib.ListN.{length, drop}
-use Rattle.codec.specs.Text.{blanks_in}
 use Rattle.codec.proofs.TextLaws.{blanks_end, blanks_more, blanks_other}
 use Rattle.codec.proofs.text.blanks.Goals as goal
 

@@ -2,10 +2,8 @@
 -- The measure is what is left of the length. Assumes nothing.
 use Prim.Native.Nat.{◌+◌, ◌-◌, ◌≤◌}
 use mathlib.Core.Path.{◌≡◌}
-use native.Mathlib.Omega.{arith}
 use lib.ListN.{length, drop}
 use Rattle.codec.specs.Text.{blanks_in}
-use Rattle.codec.proofs.TextLaws.{blanks_end, blanks_more, blanks_other}
 use Rattle.codec.proofs.text.blanks.Given as goal
 
 abbrev pub invariant-loop-end : goal.invariant-loop-end

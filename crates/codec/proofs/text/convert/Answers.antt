@@ -1,7 +1,6 @@
 -- `convert` meets its contract: where the longest beginning is the whole text, its number or its refusal is given, else 8.
 -- Assumes nothing.
 use mathlib.Core.Path.{ap, sym, ◌∙◌}
-use borrow.Author.Rules.{rules}
 use Rattle.decimal.specs.Number.{number_meaning}
 use Rattle.codec.proofs.TextLaws.{convert_whole, convert_other, read_used_lem, read_number}
 use Rattle.codec.proofs.text.convert.Goals as goal

@@ -5,19 +5,8 @@ use mathlib.Core.Path.{◌≡◌, sym, ◌∙◌}
 use mathlib.Core.Bool.{true}
 use native.Mathlib.Omega.{arith}
 use lib.ListN.{get_or}
-use borrow.Author.Tests.{not-true, not-false}
 use Rattle.codec.specs.Text.{is_digit}
-use Rattle.codec.proofs.TextLaws.{
-  digit_byte,
-  digits_end,
-  digits_other,
-  Running,
-  running_starts,
-  running_turns,
-  running_ends,
-  running_full,
-  running_fits,
-}
+use Rattle.codec.proofs.TextLaws.{digit_byte, digits_end, digits_other, running_starts, running_turns, running_ends, running_full, running_fits}
 use Rattle.codec.proofs.text.digit_run.Goals as goal
 
 pub loop-count-init : goal.loop-count-init

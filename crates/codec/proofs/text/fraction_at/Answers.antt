@@ -2,7 +2,6 @@
 -- Assumes nothing.
 use Prim.Native.Nat.{◌+◌}
 use native.Mathlib.Omega.{arith}
-use borrow.Author.Rules.{rules}
 use lib.ListN.{length-drop}
 use Rattle.codec.proofs.TextLaws.{point_end, point_other, point_here, run_few, fraction_none, fraction_some}
 use Rattle.codec.proofs.text.fraction_at.Goals as goal

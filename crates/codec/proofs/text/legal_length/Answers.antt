@@ -1,5 +1,4 @@
 -- `legal_length` meets its contract: it is the length of what is read. Assumes nothing.
-use borrow.Author.Rules.{rules}
 use Rattle.codec.proofs.TextLaws.{read_used_lem}
 use Rattle.codec.proofs.text.legal_length.Goals as goal
 

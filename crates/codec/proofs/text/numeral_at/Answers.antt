@@ -1,28 +1,8 @@
 -- `numeral_at` meets its contract: each place that the code has come to is the one where the next part of the numeral begins, and the
 -- parts make the numeral. Assumes nothing.
-use Prim.Native.Nat.{ℕ, ◌+◌, ◌-◌, ◌^◌, ◌<◌}
-use mathlib.Core.List.{List}
 use native.Mathlib.Omega.{arith}
-use borrow.Author.Rules.{rules}
-use lib.ListN.{length, drop, length-drop}
-use Rattle.decimal.specs.Digits.{precision}
-use Rattle.codec.specs.Text.{FractionFound, NumeralFound}
-use Rattle.codec.proofs.TextLaws.{
-  integer_in,
-  pointed_in,
-  powered_in,
-  Place,
-  place_here,
-  place_pointed,
-  fraction_found,
-  place_powered,
-  power_found,
-  numeral_found,
-  numeral_within,
-  run_few,
-  run_held,
-  fraction_most,
-}
+use lib.ListN.{drop, length-drop}
+use Rattle.codec.proofs.TextLaws.{place_here, place_pointed, fraction_found, place_powered, power_found, numeral_found, numeral_within, run_few, run_held, fraction_most}
 use Rattle.codec.proofs.text.numeral_at.Goals as goal
 
 pub overflow_add-pointed : goal.overflow_add-pointed

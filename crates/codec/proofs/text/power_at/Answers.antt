@@ -1,10 +1,9 @@
 -- `power_at` meets its contract, by the laws of the exponent at a place: none, E without a digit, E with a sign and digits.
 -- Assumes nothing.
-use Prim.Native.Nat.{◌+◌, ◌≤◌}
+use Prim.Native.Nat.{◌+◌}
 use mathlib.Core.Path.{refl, ap, ◌∙◌}
 use native.Mathlib.Omega.{arith}
-use borrow.Author.Rules.{rules}
-use lib.ListN.{length, drop, length-drop}
+use lib.ListN.{drop, length-drop}
 use Rattle.codec.specs.Text.{sign_length}
 use Rattle.codec.proofs.TextLaws.{power_end, power_other, power_none, power_bare, power_some, sign_within, run_few, run_exponent}
 use Rattle.codec.proofs.text.power_at.Goals as goal

@@ -1,26 +1,9 @@
 -- `read_text` meets its contract: each place that the code has come to is the one where the next part of the text begins, and the
 -- parts make the whole. Assumes nothing.
-use Prim.Native.Nat.{ℕ, ◌+◌, ◌^◌, ◌<◌}
-use mathlib.Core.List.{List}
 use mathlib.Core.Path.{ap, ◌∙◌}
 use native.Mathlib.Omega.{arith}
-use borrow.Author.Rules.{rules}
-use lib.ListN.{length, drop}
-use Rattle.codec.specs.Text.{blanks_in, NumeralFound}
-use Rattle.codec.proofs.TextLaws.{
-  unsigned_in,
-  end_in,
-  Place,
-  place_signed,
-  sign_found,
-  place_unsigned,
-  numeral_there,
-  place_end,
-  place_behind,
-  read_none,
-  read_some,
-}
-use Rattle.codec.specs.declared.text.Numeral.{Numeral}
+use Rattle.codec.specs.Text.{blanks_in}
+use Rattle.codec.proofs.TextLaws.{place_signed, sign_found, place_unsigned, numeral_there, place_end, place_behind, read_none, read_some}
 use Rattle.codec.proofs.text.read_text.Goals as goal
 
 pub overflow_add-start : goal.overflow_add-start

@@ -1,6 +1,5 @@
 -- `read_text_number` meets its contract: what is read is given as it is, with the bytes used where it is a number. Assumes nothing.
 use mathlib.Core.Path.{ap, sym, ◌∙◌}
-use borrow.Author.Rules.{rules}
 use Rattle.decimal.specs.Number.{number_meaning}
 use Rattle.codec.proofs.TextLaws.{read_used_lem, read_number, reads_number, reads_refused}
 use Rattle.codec.proofs.text.read_text_number.Goals as goal

@@ -2,7 +2,6 @@
 -- Assumes nothing.
 use mathlib.Core.Path.{ap, sym, ◌∙◌}
 use native.Mathlib.Omega.{arith}
-use borrow.Author.Rules.{rules}
 use Rattle.decimal.specs.Image.{sign_of}
 use Rattle.codec.proofs.TextLaws.{sign_end, sign_here, no_sign}
 use Rattle.codec.proofs.text.sign_at.Goals as goal

@@ -1,6 +1,5 @@
 -- `signed_power` meets its contract: the sign decides the direction. Assumes nothing.
 use mathlib.Core.Path.{sym, ◌∙◌}
-use borrow.Author.Rules.{rules}
 use Rattle.codec.proofs.text.signed_power.Goals as goal
 
 pub returns-then-is_minus : goal.returns-then-is_minus

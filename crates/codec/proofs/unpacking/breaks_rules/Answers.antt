@@ -1,11 +1,9 @@
 -- `breaks_rules` meets its contract: the tests on the way decide `breaks_rules`. Assumes nothing.
 use Prim.Native.Nat.{◌≤◌}
 use mathlib.Core.Path.{◌≡◌, sym, ◌∙◌}
-use mathlib.Core.Logic.{⊎_elim}
 use mathlib.Core.Bool.{true, false}
 use native.Mathlib.Omega.{arith}
 use lib.Bits.{and_mask}
-use borrow.Author.Rules.{rules}
 use Rattle.codec.proofs.UnpackLaws.{breaks_other, breaks_minus, breaks_zero_below, breaks_zero_above, breaks_below, breaks_first}
 use Rattle.codec.proofs.unpacking.breaks_rules.Goals as goal
 use Rattle.codec.proofs.unpacking.breaks_rules.Goals.{then-sign-ge8-2+else-size-eq0, else-sign-ge8-2}

@@ -1,13 +1,10 @@
 -- `read_pairs` meets its contract. The loop's invariant is `ReadingRun`: the value so far, continued by the halves that are left, is
 -- the whole. The measure is what is left of the length. Assumes nothing.
-use Prim.Native.Nat.{◌-◌, ◌<◌}
-use mathlib.Core.Path.{sym}
-use native.Mathlib.Omega.{arith}
-use lib.ListN.{length, drop, get_or}
-use borrow.Author.Rules.{rules}
+use Prim.Native.Nat.{◌-◌}
+use lib.ListN.{length, drop}
 use Rattle.codec.specs.Halves.{halves_of}
 use Rattle.codec.specs.Unpacking.{read_on}
-use Rattle.codec.proofs.UnpackLaws.{ReadingRun, run_starts, run_turns, run_stops, run_small, run_ends, worth_below}
+use Rattle.codec.proofs.UnpackLaws.{ReadingRun}
 use Rattle.codec.proofs.unpacking.read_pairs.Given as goal
 
 abbrev pub invariant-loop-i : goal.invariant-loop-i

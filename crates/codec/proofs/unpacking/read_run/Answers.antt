@@ -3,7 +3,6 @@ use Prim.Native.Nat.{ℕ}
 use mathlib.Core.Path.{◌≡◌, ap, sym, ◌∙◌}
 use native.Mathlib.Omega.{arith}
 use lib.ListN.{drop}
-use borrow.Author.Rules.{rules}
 use Rattle.codec.specs.Halves.{halves_of}
 use Rattle.codec.specs.Unpacking.{read_on}
 use Rattle.codec.proofs.UnpackLaws.{first_bad, first_read}

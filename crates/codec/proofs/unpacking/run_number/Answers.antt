@@ -1,7 +1,6 @@
 -- `run_number` meets its contract: the padding is the last digit, if there is one. Assumes nothing.
 use Prim.Native.Nat.{ℕ, ◌%◌}
 use mathlib.Core.Path.{◌≡◌, ap, sym, ◌∙◌}
-use borrow.Author.Rules.{rules}
 use Rattle.codec.specs.Columns.{pad_count}
 use Rattle.codec.proofs.UnpackLaws.{run_even, run_zero, run_other}
 use Rattle.codec.proofs.unpacking.run_number.Goals as goal

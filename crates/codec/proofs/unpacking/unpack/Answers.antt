@@ -1,6 +1,5 @@
 -- `unpack` meets its contract: refused as the contents is, else the body is read under its images. Assumes nothing.
 use mathlib.Core.Path.{ap, sym, ◌∙◌}
-use borrow.Author.Rules.{rules}
 use Rattle.codec.specs.Unpacking.{unpacked_of}
 use Rattle.codec.proofs.ContentsLaws.{alone_refused}
 use Rattle.codec.proofs.UnderLaws.{unpacking_lent}

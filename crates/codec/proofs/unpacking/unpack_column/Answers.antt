@@ -1,7 +1,6 @@
 -- `unpack_column` meets its contract: the halves behind the sign half are read as one whole number. Assumes nothing.
 use mathlib.Core.Path.{ap, sym, ◌∙◌}
 use native.Mathlib.Omega.{arith}
-use borrow.Author.Rules.{rules}
 use Rattle.codec.specs.Unpacking.{run_meaning}
 use Rattle.codec.proofs.ContentsLaws.{column_some, column_few, sign_few}
 use Rattle.codec.proofs.UnpackLaws.{column_run, column_small, column_bad}

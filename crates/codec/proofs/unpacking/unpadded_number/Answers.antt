@@ -1,6 +1,5 @@
 -- `unpadded_number` meets its contract: under an exponential image the last two digits are those of |x|. Assumes nothing.
 use mathlib.Core.Path.{sym, ◌∙◌}
-use borrow.Author.Rules.{rules}
 use Rattle.codec.proofs.UnpackLaws.{unpadded_exponential, unpadded_fixed}
 use Rattle.codec.proofs.unpacking.unpadded_number.Goals as goal
 

@@ -1,7 +1,6 @@
 -- `read_at` meets its contract: from the end on there is no text number, else the text reader finds it. Assumes nothing.
 use mathlib.Core.Path.{ap, sym, ◌∙◌}
 use Prim.Native.Nat.{ℕ}
-use borrow.Author.Rules.{rules}
 use lib.ListN.{take, drop, length-drop}
 use lib.Seq.{take-length}
 use Rattle.codec.specs.Text.{reading_in}

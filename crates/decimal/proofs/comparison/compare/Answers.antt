@@ -1,5 +1,5 @@
 -- `compare` meets its contract: the two tests of normal form decide `comparison`. Assumes nothing.
-use Rattle.std.proofs.Common.{◌≡◌, sym, ap, ◌∙◌, rules}
+use Rattle.std.proofs.Common.{sym, ap, ◌∙◌}
 use Rattle.decimal.specs.declared.comparison.Order.{Order}
 use Rattle.decimal.specs.Answer.{Answer, done}
 use Rattle.decimal.proofs.ComparisonLaws.{compared, first_abnormal, second_abnormal}

@@ -1,5 +1,5 @@
 -- `magnitude_order` meets its contract: zero, the exponents and the mantissas decide the order of the magnitudes. Assumes nothing.
-use Rattle.std.proofs.Common.{◌≡◌, sym, ◌∙◌, arith, rules}
+use Rattle.std.proofs.Common.{sym, ◌∙◌, arith}
 use Rattle.decimal.proofs.ComparisonLaws.{zero_magnitudes, some_and_zero, exponent_less, exponent_greater, exponent_equal}
 use Rattle.decimal.proofs.comparison.magnitude_order.Goals as goal
 

@@ -1,5 +1,5 @@
 -- `value_order` meets its contract: at each return the signs that led there decide `value_order`. Assumes nothing.
-use Rattle.std.proofs.Common.{sym, ◌∙◌, rules}
+use Rattle.std.proofs.Common.{sym, ◌∙◌}
 use Rattle.decimal.proofs.ComparisonLaws.{minus_first, minus_second, minus_both, minus_none}
 use Rattle.decimal.proofs.comparison.value_order.Goals as goal
 

@@ -1,7 +1,7 @@
 -- `decimal::digits::take_digit` meets its contract: each subtraction halves the multiple of the power that the rest is below.
 -- Assumes nothing.
-use Rattle.std.proofs.Common.{◌≡◌, ℕ, ◌+◌, ◌*◌, ◌^◌, ◌<◌, ◌≤◌, refl, ap, ◌∙◌, ⊎_elim, add-mul, zero-mul, arith, rules}
-use Rattle.decimal.specs.Digits.{subtraction_limit, Subtracts, Subtractions, no_subtraction, one_more, TakesDigit}
+use Rattle.std.proofs.Common.{◌≡◌, ℕ, ◌+◌, ◌*◌, ◌<◌, ◌≤◌, refl, ap, ◌∙◌, ⊎_elim, add-mul, zero-mul, arith}
+use Rattle.decimal.specs.Digits.{Subtracts, Subtractions, no_subtraction, one_more}
 use Rattle.decimal.specs.declared.digits.Taken.{Taken}
 use Rattle.decimal.proofs.digits.take_digit.Goals as goal
 

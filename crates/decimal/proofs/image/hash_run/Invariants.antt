@@ -1,8 +1,7 @@
 -- `image::hash_run` meets its contract. The loop's invariant: the # signs passed and those from here on are those from the place on.
 -- The measure is what is left of the length. Assumes nothing.
-use Rattle.std.proofs.Common.{◌≡◌, ◌+◌, ◌-◌, ◌≤◌, length, drop, arith}
+use Rattle.std.proofs.Common.{◌≡◌, ◌+◌, ◌-◌, ◌≤◌, length, drop}
 use Rattle.decimal.specs.Image.{hashes_in}
-use Rattle.decimal.proofs.StepLaws.{hashes_end, hashes_more, hashes_other}
 use Rattle.decimal.proofs.image.hash_run.Given as goal
 
 abbrev pub invariant-loop-end : goal.invariant-loop-end

@@ -1,6 +1,6 @@
 -- `image::next_state` meets its contract. Each arm puts its key for the byte; the last knows that the byte is no key.
 -- Assumes nothing.
-use Rattle.std.proofs.Common.{sym, ap, ◌∙◌, inl, inr, ⊎_elim, rules, ne_eqb}
+use Rattle.std.proofs.Common.{sym, ap, ◌∙◌, inl, inr, ⊎_elim, ne_eqb}
 use Rattle.decimal.specs.Image.{state_of, next_state}
 use Rattle.decimal.proofs.ImageTails.{other}
 use Rattle.decimal.proofs.image.next_state.Goals as goal

@@ -1,5 +1,5 @@
 -- `image::read_image` meets its contract: the scan's last state and its counts decide. Assumes nothing.
-use Rattle.std.proofs.Common.{sym, ◌∙◌, ⊎_elim, arith, rules, ltb-false, ltb-true}
+use Rattle.std.proofs.Common.{sym, ◌∙◌, arith, ltb-false, ltb-true}
 use Rattle.decimal.proofs.ImageLaws.{reads_refused, accepted_some, scan_accepted, scan_many, scan_image}
 use Rattle.decimal.proofs.image.read_image.Goals as goal
 use Rattle.decimal.proofs.image.read_image.Goals.{then-scan-gt-PRECISION-via-then-scan-gt-PRECISION, then-scan-gt-PRECISION-via-else-scan-gt-PRECISION+then-scan}
@@ -11,8 +11,8 @@ returns-then-scan-gt-PRECISION c =
     sym
     (scan_many i.scan_bytes-scan.ensures _ (sym i.is_image.ensures ∙ t.if-is_image.true)
     (elim c.then-scan-gt-PRECISION.branch [
-      then-scan-gt-PRECISION-via-then-scan-gt-PRECISION w ↦ omega arith
-    | then-scan-gt-PRECISION-via-else-scan-gt-PRECISION+then-scan w ↦ omega (arith, ltb-true)
+      | then-scan-gt-PRECISION-via-then-scan-gt-PRECISION w ↦ omega arith
+      | then-scan-gt-PRECISION-via-else-scan-gt-PRECISION+then-scan w ↦ omega (arith, ltb-true)
     ]))
 
 pub bounds-bytes-0 : goal.bounds-bytes-0

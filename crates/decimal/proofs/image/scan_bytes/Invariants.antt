@@ -1,8 +1,8 @@
 -- `image::scan_bytes` meets its contract. The loop's invariant is `Reading`: what was read and what is left make the whole.
 -- The measure is what is left of the length. Assumes nothing.
-use Rattle.std.proofs.Common.{◌-◌, length, refl, arith}
+use Rattle.std.proofs.Common.{◌-◌, length}
 use Rattle.decimal.specs.Image.{state_of}
-use Rattle.decimal.proofs.StepLaws.{Reading, reading_starts, reading_steps, reading_ends, step_some, step_few}
+use Rattle.decimal.proofs.StepLaws.{Reading}
 use Rattle.decimal.proofs.image.scan_bytes.Given as goal
 
 abbrev pub invariant-loop-at : goal.invariant-loop-at

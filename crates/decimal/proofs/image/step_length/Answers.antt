@@ -1,5 +1,5 @@
 -- `image::step_length` meets its contract: a run of # signs, or one byte. Assumes nothing.
-use Rattle.std.proofs.Common.{sym, ◌∙◌, rules}
+use Rattle.std.proofs.Common.{sym, ◌∙◌}
 use Rattle.decimal.proofs.StepLaws.{step_one, step_hashes}
 use Rattle.decimal.proofs.image.step_length.Goals as goal
 

@@ -1,6 +1,6 @@
 -- `shift_left` meets its contract: each step leaves half of the zeros that may stand before the number, fewer than 16 at the start.
 -- Assumes nothing.
-use Rattle.std.proofs.Common.{◌≡◌, ℕ, ◌+◌, ◌<◌, ◌≤◌, arith, rules}
+use Rattle.std.proofs.Common.{◌≡◌, ℕ, ◌+◌, ◌<◌, ◌≤◌, arith}
 use Rattle.decimal.specs.declared.number.Shifted.{Shifted}
 use Rattle.decimal.specs.Digits.{precision}
 use Rattle.decimal.specs.Number.{shift_past}

@@ -1,5 +1,5 @@
 -- `shift_past` meets its contract: the power that it compares with decides `shift_past`. Assumes nothing.
-use Rattle.std.proofs.Common.{◌≡◌, ℕ, ◌+◌, ◌-◌, ◌*◌, ◌^◌, ◌<◌, ◌≤◌, sym, ap, ◌∙◌, arith, rules}
+use Rattle.std.proofs.Common.{◌≡◌, ℕ, ◌+◌, ◌*◌, ◌^◌, ◌≤◌, sym, ap, ◌∙◌, arith}
 use Rattle.decimal.specs.declared.number.Shifted.{Shifted}
 use Rattle.decimal.specs.Digits.{precision, power_of_ten}
 use Rattle.decimal.proofs.PowerLaws.{power_small}

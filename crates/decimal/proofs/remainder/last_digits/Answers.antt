@@ -1,5 +1,5 @@
 -- `last_digits` meets its contract: the unit is the power of ten of the count of digits that are left. Assumes nothing.
-use Rattle.std.proofs.Common.{ℕ, ◌-◌, ◌%◌, ap, ◌∙◌, arith, rules}
+use Rattle.std.proofs.Common.{ℕ, ◌-◌, ◌%◌, ap, ◌∙◌, arith}
 use Rattle.decimal.specs.Digits.{precision}
 use Rattle.decimal.proofs.PowerLaws.{pow10_pos, power_left}
 use Rattle.decimal.proofs.remainder.last_digits.Goals as goal

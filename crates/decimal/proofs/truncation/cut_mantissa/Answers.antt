@@ -1,8 +1,7 @@
 -- `cut_mantissa` meets its contract: the whole part times the unit. Assumes nothing.
-use Rattle.std.proofs.Common.{◌≡◌, ℕ, ◌-◌, ◌*◌, ◌/◌, ◌^◌, ap, ◌∙◌, arith, rules}
+use Rattle.std.proofs.Common.{◌≡◌, ℕ, ◌-◌, ◌*◌, ◌/◌, ◌^◌, ap, ◌∙◌, arith}
 use Rattle.decimal.specs.Digits.{precision}
 use Rattle.decimal.proofs.PowerLaws.{pow10_pos, pow10_mono, power_left}
-use Rattle.decimal.proofs.ScaleLaws.{cut_by_remainder}
 use Rattle.decimal.proofs.truncation.cut_mantissa.Goals as goal
 
 pub whole_part-requires : goal.whole_part-requires

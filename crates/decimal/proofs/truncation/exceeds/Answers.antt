@@ -1,5 +1,5 @@
 -- `exceeds` meets its contract: zero never exceeds, and another number does by its digits before the point. Assumes nothing.
-use Rattle.std.proofs.Common.{◌≡◌, ℕ, ltb, sym, ap, ◌∙◌, arith, rules}
+use Rattle.std.proofs.Common.{◌≡◌, ℕ, ltb, sym, ap, ◌∙◌, arith}
 use Rattle.decimal.proofs.NumberLaws.{normal_top, normal_range, normal_is_zero}
 use Rattle.decimal.proofs.TruncationLaws.{exceeds_zero, exceeds_range}
 use Rattle.decimal.specs.Truncation.{exceeds}

@@ -1,5 +1,5 @@
 -- `exponent_outside` meets its contract: the tests on the way decide `exponent_outside`. Assumes nothing.
-use Rattle.std.proofs.Common.{◌≡◌, ◌+◌, ◌<◌, ◌≤◌, sym, arith, rules}
+use Rattle.std.proofs.Common.{◌≡◌, ◌+◌, ◌<◌, ◌≤◌, sym, arith}
 use Rattle.decimal.proofs.NumberLaws.{normal_top}
 use Rattle.decimal.proofs.TruncationLaws.{outside_zero, outside_below, outside_above}
 use Rattle.decimal.proofs.truncation.exponent_outside.Goals as goal

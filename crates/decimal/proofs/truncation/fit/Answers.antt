@@ -1,5 +1,5 @@
 -- `fit` meets its contract: the image's check, the number's and the limits, in document 01's order. Assumes nothing.
-use Rattle.std.proofs.Common.{sym, ap, ◌∙◌, rules}
+use Rattle.std.proofs.Common.{sym, ap, ◌∙◌}
 use Rattle.decimal.specs.Image.{image_meaning}
 use Rattle.decimal.specs.Answer.{checked_only}
 use Rattle.decimal.proofs.TruncationLaws.{truncation_image_refused, truncation_abnormal, truncation_limited}

@@ -1,5 +1,5 @@
 -- `fit_packed` meets its contract: what `fit` says, and then the limit of packing. Assumes nothing.
-use Rattle.std.proofs.Common.{sym, ap, ◌∙◌, arith, rules}
+use Rattle.std.proofs.Common.{sym, ap, ◌∙◌, arith, ltb-true, ltb-false}
 use Rattle.decimal.specs.Answer.{checked_only, check_meaning}
 use Rattle.decimal.proofs.TruncationLaws.{packed_refused, packed_signed, packed_negative, packed_unsigned}
 use Rattle.decimal.proofs.KeptLaws.{checked_refused, checked_fits}
@@ -19,21 +19,21 @@ returns-then-is_signed c =
     let fits = checked_fits _ _ _ (sym t.fit.ensures ∙ ap check_meaning t.in_default.is) in
     sym (ap checked_only (packed_signed _ _ _ fits (sym s.is_signed.ensures ∙ c.if-is_signed.true)))
 
-pub stored_exponent-requires : goal.stored_exponent-requires
-stored_exponent-requires c =
+pub stored_exponent-below-requires : goal.stored_exponent-below-requires
+stored_exponent-below-requires c =
     let t = c in
     checked_fits _ _ _ (sym t.fit.ensures ∙ ap check_meaning t.in_default.is)
 
-pub returns-then-stored_exponent-lt-EXPONENT_LIMIT : goal.returns-then-stored_exponent-lt-EXPONENT_LIMIT
+pub returns-then-below : goal.returns-then-below
 unfolding checked_only
-returns-then-stored_exponent-lt-EXPONENT_LIMIT c =
+returns-then-below c =
     let x = c in
     let s = x in
     let t = s in
     let fits = checked_fits _ _ _ (sym t.fit.ensures ∙ ap check_meaning t.in_default.is) in
     let unsigned = sym s.is_signed.ensures ∙ x.if-is_signed.false in
     c.refused.ensures
-    ∙ sym (ap checked_only (packed_negative _ _ _ fits unsigned (omega (arith, x.stored_exponent.ensures, c.if-stored_exponent-lt-EXPONENT_LIMIT.true))))
+    ∙ sym (ap checked_only (packed_negative _ _ _ fits unsigned (omega (arith, x.stored_exponent-below.ensures, ltb-true))))
 
 pub returns : goal.returns
 unfolding checked_only
@@ -43,4 +43,4 @@ returns c =
     let t = s in
     let fits = checked_fits _ _ _ (sym t.fit.ensures ∙ ap check_meaning t.in_default.is) in
     let unsigned = sym s.is_signed.ensures ∙ x.if-is_signed.false in
-    sym (ap checked_only (packed_unsigned _ _ _ fits unsigned (omega (arith, x.stored_exponent.ensures, c.if-stored_exponent-lt-EXPONENT_LIMIT.false))))
+    sym (ap checked_only (packed_unsigned _ _ _ fits unsigned (omega (arith, x.stored_exponent-below.ensures, ltb-false))))

@@ -1,5 +1,5 @@
 -- `decimal::truncation::kept_halves` meets its contract: the first digits, with zeros before them. Assumes nothing.
-use Rattle.std.proofs.Common.{◌≡◌, ℕ, ◌+◌, ◌-◌, ◌*◌, ◌/◌, ◌^◌, ◌<◌, ◌≤◌, take, sym, ap, ◌∙◌, div-lt_iff_lt-mul, add_comm, arith, rules}
+use Rattle.std.proofs.Common.{◌≡◌, ℕ, ◌+◌, ◌-◌, ◌*◌, ◌/◌, ◌^◌, ◌<◌, take, sym, ap, ◌∙◌, div-lt_iff_lt-mul, add_comm, arith}
 use Rattle.decimal.specs.Digits.{precision, digits_of, packed_of}
 use Rattle.decimal.proofs.PowerLaws.{pow10_pos, pow10_add}
 use Rattle.decimal.proofs.DigitLaws.{digits_first, digits_padded}

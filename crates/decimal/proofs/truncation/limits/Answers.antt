@@ -1,5 +1,5 @@
 -- `limits` meets its contract: each test on the way is one of the image's limits. Assumes nothing.
-use Rattle.std.proofs.Common.{sym, ap, ◌∙◌, rules}
+use Rattle.std.proofs.Common.{sym, ap, ◌∙◌}
 use Rattle.decimal.specs.Answer.{checked_only}
 use Rattle.decimal.proofs.TruncationLaws.{limited_exponent, limited_exceeds, limited_inside, limited_below}
 use Rattle.decimal.proofs.truncation.limits.Goals as goal

@@ -1,5 +1,5 @@
 -- `truncate` meets its contract: the sign, the digits and the stored exponent are those of `truncated_to`. Assumes nothing.
-use Rattle.std.proofs.Common.{◌≡◌, ℕ, ◌-◌, ◌/◌, ◌^◌, Bool, not, ◌&&◌, eqb, sym, ap, ◌∙◌, arith, rules}
+use Rattle.std.proofs.Common.{◌≡◌, ℕ, ◌-◌, ◌/◌, ◌^◌, Bool, not, ◌&&◌, eqb, sym, ap, ◌∙◌, arith}
 use Rattle.decimal.specs.declared.number.Number.{Number}
 use Rattle.decimal.specs.declared.image.Image.{Image}
 use Rattle.decimal.specs.declared.refusal.CheckAnswer.TheVariants as checks

@@ -1,5 +1,5 @@
 -- `truncated` meets its contract: with no digit kept it is zero, else the number with the other digits zero. Assumes nothing.
-use Rattle.std.proofs.Common.{◌≡◌, ℕ, ◌-◌, ◌*◌, ◌/◌, ◌^◌, ◌<◌, Bool, not, ◌&&◌, eqb, sym, refl, ap, ◌∙◌, arith, rules}
+use Rattle.std.proofs.Common.{◌≡◌, ℕ, ◌-◌, ◌*◌, ◌/◌, ◌^◌, ◌<◌, Bool, not, ◌&&◌, eqb, sym, refl, ap, ◌∙◌, arith}
 use Rattle.decimal.specs.declared.number.Number.{Number}
 use Rattle.decimal.specs.declared.image.Image.{Image}
 use Rattle.decimal.specs.Answer.{Answer, done, refused, ◌then◌, check_meaning}

@@ -1,7 +1,5 @@
 -- `digit_for` meets its contract: the next digit for a #, and 0 for another byte. Assumes nothing.
-use mathlib.Core.Path.{◌≡◌}
 use native.Mathlib.Omega.{arith}
-use borrow.Author.Rules.{rules}
 use Rattle.codec.specs.Packing.{held_by}
 use Rattle.records.proofs.FieldLaws.{next_digit_below}
 use Rattle.records.proofs.fields.digit_for.Goals as goal

@@ -6,7 +6,6 @@ use Rattle.decimal.specs.Answer.{pick}
 use Rattle.codec.specs.Alpha.{zero_byte}
 use Rattle.records.specs.Fields.{suppressed, sign_byte_of}
 use Rattle.records.proofs.FieldLaws.{shown_hash, shown_comma, fill_blank, fill_digit, fill_comma, fill_point, fill_sign}
-use borrow.Author.Rules.{rules}
 use Rattle.records.proofs.fields.fill_byte.Goals as goal
 
 -- what is shown is not suppressed

@@ -1,7 +1,4 @@
 -- `fill_next` meets its contract: behind a # one digit more was used, behind the point it was shown. Assumes nothing.
-use mathlib.Core.Path.{◌≡◌, refl, ap, sym, ◌∙◌}
-use mathlib.Core.Bool.{not}
-use native.Mathlib.Omega.{arith}
 use Rattle.records.proofs.FieldLaws.{suppressed_by, next_hash, next_point, next_other}
 use Rattle.records.proofs.fields.fill_next.Goals as goal
 

@@ -2,9 +2,7 @@
 use Prim.Native.Nat.{ℕ, ◌-◌, ◌*◌, ◌/◌, ◌^◌}
 use mathlib.Core.Path.{◌≡◌, ap, sym, ◌∙◌}
 use mathlib.Core.List.{List}
-use native.Mathlib.Omega.{arith}
-use borrow.Author.Rules.{rules}
-use lib.Bits.{and_mask, mask_lt}
+use lib.Bits.{and_mask}
 use lib.ListN.{get_or}
 use Rattle.decimal.specs.Digits.{precision, digits_of, value_of, halves_in}
 use Rattle.decimal.specs.Image.{hashes}

@@ -3,7 +3,6 @@ use mathlib.Core.Path.{ap}
 use native.Mathlib.Omega.{arith}
 use Rattle.codec.specs.Columns.{sign_count}
 use Rattle.records.specs.Fields.{point_place}
-use borrow.Author.Rules.{rules}
 use Rattle.records.proofs.fields.point_place.Goals as goal
 
 pub returns-in-Unsigned : goal.returns-in-Unsigned

@@ -1,18 +1,15 @@
 -- `read_marked` meets its contract. The loop's invariant: the kept bytes and what is kept of the rest of the field are what is kept of
 -- the field. The measure is what is left of the field. Assumes nothing.
-use Prim.Native.Nat.{ℕ, ◌+◌, ◌-◌, ◌≤◌}
-use mathlib.Core.Path.{◌≡◌, refl, ap, sym, ◌∙◌}
+use Prim.Native.Nat.{ℕ, ◌+◌}
+use mathlib.Core.Path.{refl, ap, sym, ◌∙◌}
 use mathlib.Core.List.{List, ◌++◌, ◌∷◌}
-use mathlib.Core.Logic.{⊎_elim}
 use native.Mathlib.Omega.{arith}
-use borrow.Author.Rules.{rules}
-use borrow.Author.Tests.{not-true, not-false}
 use lib.ListN.{length, take, drop, get_or, length-append, length-set}
 use lib.Seq.{length-take-le}
 use Rattle.codec.specs.Text.{convert_text}
 use Rattle.records.specs.Marks.{without_marks}
 use Rattle.records.specs.Fields.{read_marked}
-use Rattle.records.proofs.ReadFieldLaws.{text_room, long_refused, drops_byte, keeps_byte, stored_behind, kept_all}
+use Rattle.records.proofs.ReadFieldLaws.{long_refused, drops_byte, keeps_byte, stored_behind, kept_all}
 use Rattle.records.proofs.fields.read_marked.Goals as goal
 use Rattle.records.proofs.fields.read_marked.Goals.{then-not-is_dropped+else-kept-ge-TEXT_ROOM, else-not-is_dropped}
 
@@ -37,7 +34,7 @@ loop-j-preserved c =
     let byte = get_or field l.j 0 in
     let rest = without_marks a.marks (drop (l.j + 1) field) in
     elim c.if-not-is_dropped.branch [
-      then-not-is_dropped+else-kept-ge-TEXT_ROOM w ↦ (
+      | then-not-is_dropped+else-kept-ge-TEXT_ROOM w ↦ (
         omega arith,
         omega arith,
         ap length w.text-is ∙ length-set l.text l.kept w.read_byte.result ∙ l.invariant.2,
@@ -47,7 +44,7 @@ loop-j-preserved c =
             ∙ stored_behind l.text l.kept w.read_byte.result rest (omega arith)
             ∙ sym (λ i. take (w.kept-is i) (w.text-is i) ++ rest),
       )
-    | else-not-is_dropped w ↦ (
+      | else-not-is_dropped w ↦ (
         omega arith,
         omega arith,
         ap length w.text-is ∙ l.invariant.2,

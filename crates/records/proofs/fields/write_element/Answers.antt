@@ -7,7 +7,6 @@ use Rattle.codec.specs.Answers.{written}
 use Rattle.records.specs.declared.fields.Element.{Element}
 use Rattle.records.specs.Fields.{element_bytes, text_in}
 use Rattle.records.proofs.FieldLaws.{text_inside}
-use borrow.Author.Rules.{rules}
 use Rattle.records.proofs.fields.write_element.Goals as goal
 
 pub overflow_add-end : goal.overflow_add-end

@@ -16,7 +16,6 @@ use Rattle.records.specs.Marks.{with_decimal}
 use Rattle.records.specs.Fields.{point_marked}
 use Rattle.records.proofs.MarkLaws.{point_marked_lem}
 use Rattle.records.proofs.FieldLaws.{stored_part, part_back, exponential_length, alpha_refused, alpha_written, number_refused, number_alpha}
-use borrow.Author.Rules.{rules}
 use Rattle.records.proofs.fields.write_exponential.Goals as goal
 
 pub returns-in-Refused : goal.returns-in-Refused

@@ -1,10 +1,10 @@
 -- `write_fixed` meets its contract. The loop's invariant: the first j bytes of the filled field are written, from the place on, and `Filling`
 -- says what is still to come. The measure is what is left of the field. Assumes nothing.
-use Prim.Native.Nat.{◌+◌, ◌-◌, ◌≤◌, ◌<◌}
+use Prim.Native.Nat.{◌+◌, ◌<◌}
 use mathlib.Core.Path.{◌≡◌, refl, ap, sym, ◌∙◌, subst}
 use native.Mathlib.Omega.{arith}
 use lib.ListN.{length, get_or, length-set}
-use lib.Seq.{paste, paste-zero}
+use lib.Seq.{paste-zero}
 use Rattle.codec.specs.Packing.{held_by}
 use Rattle.codec.proofs.BufferLaws.{written_pasted}
 use Rattle.records.specs.declared.fields.Fill.{Fill}

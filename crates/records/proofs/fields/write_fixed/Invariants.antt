@@ -1,16 +1,12 @@
 -- `write_fixed` meets its contract. The loop's invariant: the first j bytes of the filled field are written, from the place on, and `Filling`
 -- says what is still to come. The measure is what is left of the field. Assumes nothing.
-use Prim.Native.Nat.{◌+◌, ◌-◌, ◌≤◌, ◌<◌}
-use mathlib.Core.Path.{◌≡◌, refl, ap, sym, ◌∙◌, subst}
-use native.Mathlib.Omega.{arith}
-use lib.ListN.{length, get_or, length-set}
-use lib.Seq.{paste, paste-zero}
+use Prim.Native.Nat.{◌-◌, ◌≤◌}
+use mathlib.Core.Path.{◌≡◌}
+use lib.ListN.{length}
+use lib.Seq.{paste}
 use Rattle.codec.specs.Packing.{held_by}
-use Rattle.codec.proofs.BufferLaws.{written_pasted}
-use Rattle.records.specs.declared.fields.Fill.{Fill}
-use Rattle.records.specs.Fields.{fill_next, fill_bytes, nothing_filled, Filled}
-use Rattle.records.proofs.WritingLaws.{paste_turn}
-use Rattle.records.proofs.FieldLaws.{Filling, filling_starts, filling_byte, filling_hash, filling_turns, fill_length}
+use Rattle.records.specs.Fields.{fill_bytes, nothing_filled}
+use Rattle.records.proofs.FieldLaws.{Filling}
 use Rattle.records.proofs.fields.write_fixed.Given as goal
 
 abbrev pub invariant-loop-j : goal.invariant-loop-j

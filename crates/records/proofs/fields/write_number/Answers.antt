@@ -9,7 +9,6 @@ use Rattle.codec.specs.Answers.{written}
 use Rattle.codec.proofs.AlphaLaws.{truncation_found, truncation_refused}
 use Rattle.records.specs.Fields.{fill_bytes, nothing_filled}
 use Rattle.records.proofs.FieldLaws.{hash_count_lem, number_refused, number_fixed}
-use borrow.Author.Rules.{rules}
 use Rattle.records.proofs.fields.write_number.Goals as goal
 
 pub write_exponential-requires : goal.write_exponential-requires

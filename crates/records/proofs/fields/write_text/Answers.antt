@@ -1,10 +1,10 @@
 -- `write_text` meets its contract. The loop's invariant: the first j bytes of the cut or filled text are written, from the place on.
 -- The measure is what is left of the size. Assumes nothing.
-use Prim.Native.Nat.{◌+◌, ◌-◌, ◌≤◌}
-use mathlib.Core.Path.{◌≡◌, refl, sym, ◌∙◌}
+use Prim.Native.Nat.{◌+◌}
+use mathlib.Core.Path.{refl, sym, ◌∙◌}
 use native.Mathlib.Omega.{arith}
-use lib.ListN.{length, length-set}
-use lib.Seq.{paste, paste-zero}
+use lib.ListN.{length-set}
+use lib.Seq.{paste-zero}
 use Rattle.codec.specs.Lists.{filled}
 use Rattle.codec.specs.Alpha.{blank_byte}
 use Rattle.codec.proofs.ListLaws.{filled_length, filled_at}

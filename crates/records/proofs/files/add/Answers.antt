@@ -2,7 +2,6 @@
 -- Assumes nothing.
 use mathlib.Core.Path.{ap}
 use native.Mathlib.Omega.{arith}
-use borrow.Author.Rules.{rules}
 use Rattle.codec.specs.Answers.{write_meaning}
 use Rattle.codec.specs.Lists.{list_of}
 use Rattle.codec.proofs.ContentsLaws.{told_refused}
@@ -15,7 +14,7 @@ returns-in-Refused c =
     let f = c in
     let a = f.args in
     let all = adds_refused a.buffer.now a.used (list_of a.numbers)
-    (told_refused (read_used a.buffer.now a.used) f.find_place-table.result _ f.find_place-table.ensures c.in-Refused.is) in record { answer = all.0; bytes = all.1; }
+    (told_refused (read_used a.buffer.now a.used) f.find_place-table.result _ f.find_place-table.ensures c.in-Refused.is) in record { answer = all.0; bytes = all.1 }
 
 pub slice_bounds-pack_under-count : goal.slice_bounds-pack_under-count
 slice_bounds-pack_under-count c =
@@ -53,7 +52,7 @@ returns-in-Refused-pack_under c =
     let f = t in
     let a = f.args in
     let all = adds_stopped a.buffer.now a.used (list_of a.numbers) f.find_place-table.result f.find_place-table.ensures t.in_default.is
-    (p.pack_under.ensures.answer, p.pack_under.ensures.bytes) (ap write_meaning c.in-Refused-pack_under.is) in record { answer = all.0; bytes = all.1; }
+    (p.pack_under.ensures.answer, p.pack_under.ensures.bytes) (ap write_meaning c.in-Refused-pack_under.is) in record { answer = all.0; bytes = all.1 }
 
 pub returns-in-Written : goal.returns-in-Written
 returns-in-Written c =
@@ -62,4 +61,4 @@ returns-in-Written c =
     let f = t in
     let a = f.args in
     let all = adds_done a.buffer.now a.used (list_of a.numbers) f.find_place-table.result f.find_place-table.ensures t.in_default.is
-    (p.pack_under.ensures.answer, p.pack_under.ensures.bytes) (ap write_meaning c.in-Written.is) in record { answer = all.0; bytes = all.1; }
+    (p.pack_under.ensures.answer, p.pack_under.ensures.bytes) (ap write_meaning c.in-Written.is) in record { answer = all.0; bytes = all.1 }

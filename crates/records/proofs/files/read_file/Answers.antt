@@ -1,7 +1,6 @@
 -- `read_file` meets its contract: as `read_contents`, and 11 where whole bodies do not follow. Assumes nothing.
 use mathlib.Core.Path.{ap, sym, ◌∙◌}
 use native.Mathlib.Omega.{arith}
-use borrow.Author.Rules.{rules}
 use Rattle.codec.specs.Contents.{contents_of}
 use Rattle.records.proofs.FileLaws.{file_stops, size_within, body_some, file_whole, file_torn}
 use Rattle.records.proofs.files.read_file.Goals as goal

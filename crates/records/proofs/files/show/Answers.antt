@@ -1,10 +1,9 @@
 -- `show` meets its contract: refused as the file is, then with 12; else where the body stands. Assumes nothing.
 use mathlib.Core.Path.{sym}
 use native.Mathlib.Omega.{arith}
-use borrow.Author.Rules.{rules}
 use Rattle.codec.proofs.ContentsLaws.{told_refused}
 use Rattle.records.specs.Files.{read_file}
-use Rattle.records.proofs.FileLaws.{shown_refused, read_within, read_some, read_none, read_shown, read_inside}
+use Rattle.records.proofs.FileLaws.{shown_refused, read_within, read_some, read_none, read_shown}
 use Rattle.records.proofs.files.show.Goals as goal
 
 pub returns-in-Refused : goal.returns-in-Refused

@@ -1,6 +1,5 @@
 -- `write_contents` meets its contract: refused as the contents is, then with 6; else its bytes are written. Assumes nothing.
 use native.Mathlib.Omega.{arith}
-use borrow.Author.Rules.{rules}
 use lib.ListN.{length}
 use Rattle.codec.specs.Contents.{read_alone}
 use Rattle.codec.proofs.ContentsLaws.{told_read, told_refused}
@@ -13,7 +12,7 @@ returns-in-Refused c =
     let a = f.args in
     let all = refuses_file a.contents.now a.buffer.now
     (starting_refused _ _
-    (told_refused (read_alone a.contents.now) f.read_alone-table.result _ f.read_alone-table.ensures c.in-Refused.is)) in record { answer = all.0; bytes = all.1; }
+    (told_refused (read_alone a.contents.now) f.read_alone-table.result _ f.read_alone-table.ensures c.in-Refused.is)) in record { answer = all.0; bytes = all.1 }
 
 pub returns-then-buffer-contents : goal.returns-then-buffer-contents
 returns-then-buffer-contents c =
@@ -21,7 +20,7 @@ returns-then-buffer-contents c =
     let a = f.args in
     let t = told_read (read_alone a.contents.now) f.read_alone-table.result f.read_alone-table.ensures c.in_default.is in
     let all = refuses_file a.contents.now a.buffer.now
-    (starting_short a.contents.now (length a.buffer.now) t.reads c.if-buffer-contents.true) in record { answer = all.0; bytes = all.1; }
+    (starting_short a.contents.now (length a.buffer.now) t.reads c.if-buffer-contents.true) in record { answer = all.0; bytes = all.1 }
 
 pub returns : goal.returns
 returns c =
@@ -30,4 +29,4 @@ returns c =
     let a = f.args in
     let told = told_read (read_alone a.contents.now) f.read_alone-table.result f.read_alone-table.ensures t.in_default.is in
     let all = writes_file a.contents.now a.buffer.now (starting_done a.contents.now (length a.buffer.now) told.reads (omega arith))
-    c.write_bytes.ensures in record { answer = all.0; bytes = all.1; }
+    c.write_bytes.ensures in record { answer = all.0; bytes = all.1 }

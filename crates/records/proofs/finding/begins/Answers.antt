@@ -1,8 +1,6 @@
 -- `finding::begins` meets its contract: a byte that is none of + - # . begins no field. Assumes nothing.
 use native.Mathlib.Omega.{arith}
-use mathlib.Core.Path.{sym}
 use mathlib.Core.Logic.{inl, inr}
-use mathlib.Core.Bool.{false≢true}
 use Rattle.records.proofs.FindLaws.{starts_not}
 use Rattle.records.proofs.finding.begins.Goals as goal
 

@@ -1,6 +1,4 @@
 -- `finding::field_at` meets its contract: what was scanned, with the sign that the field begins with. Assumes nothing.
-use native.Mathlib.Omega.{arith}
-use borrow.Author.Rules.{rules}
 use Rattle.records.proofs.FindLaws.{field_made}
 use Rattle.records.proofs.finding.field_at.Goals as goal
 

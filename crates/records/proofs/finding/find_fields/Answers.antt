@@ -1,18 +1,15 @@
 -- `finding::find_fields` meets its contract. The loop's invariant is `Finding`: the fields found so far stand in the array, the others are
 -- still to come, and the check from here on is the line's. The measure is what is left of the line. Assumes nothing.
-use Prim.Native.Nat.{ℕ, ◌+◌, ◌-◌, ◌≤◌}
+use Prim.Native.Nat.{◌≤◌}
 use native.Mathlib.Omega.{arith}
-use mathlib.Core.Path.{◌≡◌, refl, ap, sym, ◌∙◌, subst}
-use mathlib.Core.Logic.{inl, inr, ⊎_elim}
+use mathlib.Core.Path.{◌≡◌, ap, sym, ◌∙◌, subst}
+use mathlib.Core.Logic.{inl, inr}
 use mathlib.Core.List.{List}
-use lib.ListN.{length, take, drop, set, length-drop}
-use Rattle.decimal.specs.Answer.{done, refused}
+use lib.ListN.{take, drop, set, length-drop}
 use Rattle.decimal.specs.Digits.{precision}
 use Rattle.decimal.specs.Image.{hashes, scanned_image}
-use Rattle.decimal.proofs.AnswerLaws.{never}
 use Rattle.records.specs.declared.finding.Field.{Field}
 use Rattle.records.specs.Scanning.{field_length}
-use Rattle.records.specs.Finding.{field_of}
 use Rattle.records.proofs.CheckLaws.{field_inside}
 use Rattle.records.proofs.FindLaws.{Finding, finding_starts, finding_skips, finding_literal, finding_many, finding_turn, found_refused, found_listed, scanned_length, scanned_hashes, scanned_few}
 use Rattle.records.proofs.finding.find_fields.Goals as goal
@@ -121,8 +118,8 @@ loop-at-preserved c =
     finding_turn s.scan_field-scanned.result.length (finding_skips l.loop-at.invariant (omega arith) n.next_start-at.ensures)
     (scanned_length (drop place line) s.scan_field-scanned.ensures) e.if-scanned-eq0.false few
     (elim c.if-count-lt-FIELDS.branch [
-      then-count-lt-FIELDS w ↦ inl (w.if-count-lt-FIELDS.true, w.fields-is ∙ ap (λ (x : Field). set l.loop-at.fields l.loop-at.count x) w.field_at.ensures)
-    | else-count-lt-FIELDS w ↦ inr (w.if-count-lt-FIELDS.false, w.fields-is)
+      | then-count-lt-FIELDS w ↦ inl (w.if-count-lt-FIELDS.true, w.fields-is ∙ ap (λ (x : Field). set l.loop-at.fields l.loop-at.count x) w.field_at.ensures)
+      | else-count-lt-FIELDS w ↦ inr (w.if-count-lt-FIELDS.false, w.fields-is)
     ])
 
 pub returns : goal.returns

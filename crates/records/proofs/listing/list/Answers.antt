@@ -1,5 +1,4 @@
 -- `list` meets its contract: refused as the file is, else listed. Assumes nothing.
-use borrow.Author.Rules.{rules}
 use lib.ListN.{length}
 use Rattle.codec.proofs.ContentsLaws.{told_refused}
 use Rattle.codec.proofs.AlphaLaws.{refused_answers}
@@ -16,7 +15,7 @@ returns-in-Refused c =
     let r = f.check_file-table.result in
     let all = refused_answers (listed a.file.now (length a.buffer.now)) a.buffer.now
     (listed_refused a.file.now (length a.buffer.now)
-    (told_refused (checked_file a.file.now) r n.in-Refused.refusal f.check_file-table.ensures n.in-Refused.is)) in record { answer = all.0; bytes = all.1; }
+    (told_refused (checked_file a.file.now) r n.in-Refused.refusal f.check_file-table.ensures n.in-Refused.is)) in record { answer = all.0; bytes = all.1 }
 
 pub list_checked-requires : goal.list_checked-requires
 list_checked-requires c =
@@ -27,4 +26,4 @@ list_checked-requires c =
 
 pub returns : goal.returns
 returns c =
-    record { answer = c.list_checked.ensures.answer; bytes = c.list_checked.ensures.bytes; }
+    record { answer = c.list_checked.ensures.answer; bytes = c.list_checked.ensures.bytes }

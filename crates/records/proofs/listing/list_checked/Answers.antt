@@ -1,17 +1,16 @@
 -- `list_checked` meets its contract: the listing's length is what the code measures, and its three parts are written one behind the
 -- other. Assumes nothing.
-use Prim.Native.Nat.{ℕ, ◌+◌, ◌≤◌}
+use Prim.Native.Nat.{◌+◌, ◌≤◌}
 use mathlib.Core.Path.{◌∙◌}
-use mathlib.Core.List.{List, ◌++◌}
+use mathlib.Core.List.{◌++◌}
 use native.Mathlib.Omega.{arith}
-use borrow.Author.Rules.{rules}
 use lib.ListN.{length}
 use Rattle.codec.proofs.BufferLaws.{written_stored}
 use Rattle.codec.proofs.AlphaLaws.{refused_answers, done_answers}
 use Rattle.records.specs.Listing.{lines_of, listed}
 use Rattle.records.proofs.WritingLaws.{decimal_few}
 use Rattle.records.proofs.ReportLaws.{within_some}
-use Rattle.records.proofs.LinesLaws.{ListedHeld, listed_held}
+use Rattle.records.proofs.LinesLaws.{listed_held}
 use Rattle.records.proofs.ListingLaws.{
   parts_length,
   parts_written,
@@ -58,7 +57,7 @@ returns-then-is_longer c =
     let long =
     measured_long h (length a.buffer.now) c.decimal_length.ensures c.decimal_length-2.ensures c.is_longer.ensures c.if-is_longer.true in
     let found = refused_answers (listed a.file.now (length a.buffer.now)) a.buffer.now long in
-    record { answer = c.no_room.ensures ∙ found.0; bytes = found.1; }
+    record { answer = c.no_room.ensures ∙ found.0; bytes = found.1 }
 
 pub write_count-start-requires : goal.write_count-start-requires
 write_count-start-requires c =
@@ -117,4 +116,4 @@ returns c =
     (omega (arith, long, c.write_count-start.ensures.place, c.write_records-end.ensures.place, c.write_count.ensures.place))
     (parts_written b first lines last room c.write_count-start.ensures.place c.write_records-end.ensures.place
     c.write_count-start.ensures.bytes c.write_records-end.ensures.bytes c.write_count.ensures.bytes
-    ∙ written_stored b text) in record { answer = all.0; bytes = all.1; }
+    ∙ written_stored b text) in record { answer = all.0; bytes = all.1 }

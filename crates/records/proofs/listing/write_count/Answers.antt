@@ -1,10 +1,5 @@
 -- `write_count` meets its contract: the word, the digits and 0A are written one behind the other. Assumes nothing.
-use mathlib.Core.Path.{ap, ◌∙◌}
 use native.Mathlib.Omega.{arith}
-use lib.ListN.{length}
-use borrow.Author.Rules.{rules}
-use Rattle.codec.proofs.BufferLaws.{written_length}
-use Rattle.records.specs.Listing.{count_line}
 use Rattle.records.proofs.ReportLaws.{count_line_length, count_digits_room, count_end_room, count_written}
 use Rattle.records.proofs.listing.write_count.Goals as goal
 
@@ -45,5 +40,8 @@ returns c =
     let w = d in
     let s = w in
     let a = s.args in
-    record { place = omega (arith, count_line_length a.word.now a.value, c.decimal_length.ensures); bytes = count_written a.word.now a.value a.buffer.now a.from s.requires w.write_bytes.ensures d.write_decimal.ensures
-          (omega (arith, c.decimal_length.ensures)); }
+    record {
+      place = omega (arith, count_line_length a.word.now a.value, c.decimal_length.ensures);
+      bytes = count_written a.word.now a.value a.buffer.now a.from s.requires w.write_bytes.ensures d.write_decimal.ensures
+          (omega (arith, c.decimal_length.ensures));
+    }

@@ -1,36 +1,16 @@
 -- `write_record` meets its contract. The loop's invariant: the texts of the first columns are written, parted by one blank.
 -- The measure is what is left of the columns. Assumes nothing.
-use Prim.Native.Nat.{ℕ, ◌+◌, ◌-◌, ◌<◌, ◌≤◌}
-use mathlib.Core.Path.{◌≡◌, ap, sym, ◌∙◌}
+use Prim.Native.Nat.{ℕ, ◌+◌, ◌<◌, ◌≤◌}
+use mathlib.Core.Path.{◌≡◌, ap, ◌∙◌}
 use mathlib.Core.List.{List, []}
-use mathlib.Core.Logic.{⊎_elim}
 use native.Mathlib.Omega.{arith}
-use borrow.Author.Rules.{rules}
-use lib.ListN.{length, take, get_or, length-set, length-map}
+use lib.ListN.{length, take, get_or}
 use Rattle.decimal.specs.declared.image.Image.{Image}
 use Rattle.decimal.specs.declared.number.Number.{Number}
 use Rattle.decimal.specs.Answer.{Answer, done, given}
-use Rattle.codec.specs.Answers.{stored_in, sized, write_meaning}
-use Rattle.codec.specs.Lists.{max_columns}
+use Rattle.codec.specs.Answers.{stored_in, sized}
 use Rattle.codec.specs.Alpha.{alpha_texts, writing_alpha_under}
-use Rattle.records.proofs.RecordLaws.{
-  Texting,
-  Separated,
-  texting_starts,
-  texting_kept,
-  texting_room,
-  texting_turns,
-  texting_ends,
-  separated_first,
-  separated_next,
-  separated_kept,
-  separated_room,
-  texts_long,
-  text_under_lem,
-  part_given,
-  wrote_length,
-  wrote_some,
-}
+use Rattle.records.proofs.RecordLaws.{Separated, texting_starts, texting_kept, texting_room, texting_turns, texting_ends, separated_first, separated_next, separated_kept, separated_room, texts_long, text_under_lem, part_given, wrote_length, wrote_some}
 use Rattle.records.proofs.WritingLaws.{part_behind, part_written}
 use Rattle.codec.specs.declared.lists.Images.{Images}
 use Rattle.codec.specs.declared.lists.Numbers.{Numbers}
@@ -60,8 +40,8 @@ slice_bounds-write_alpha_under-count c =
     let long : length ts ≡ a.images.count = texts_long a.images.values a.numbers.values a.images.count c.requires.1 (omega arith) in
     let joined : Separated ts a.buffer.now a.from c.if-column-gt0.buffer c.if-column-gt0.out l.column =
     elim c.if-column-gt0.branch [
-      then-column-gt0 w ↦ separated_next l.invariant.1 c.requires.2 w.if-column-gt0.true w.buffer-is w.out-is
-    | else-column-gt0 w ↦ separated_first l.invariant.1 c.requires.2 (omega (arith, w.if-column-gt0.false)) w.buffer-is w.out-is
+      | then-column-gt0 w ↦ separated_next l.invariant.1 c.requires.2 w.if-column-gt0.true w.buffer-is w.out-is
+      | else-column-gt0 w ↦ separated_first l.invariant.1 c.requires.2 (omega (arith, w.if-column-gt0.false)) w.buffer-is w.out-is
     ] in
     let further : l.column < length ts = omega (arith, long, c.loop-column-test.true) in
     let room : c.if-column-gt0.out + length (get_or ts l.column []) ≤ length c.if-column-gt0.buffer = separated_room joined c.requires.2 further in
@@ -75,8 +55,8 @@ slice_bounds-write_alpha_under-start c =
     let long : length ts ≡ a.images.count = texts_long a.images.values a.numbers.values a.images.count c.requires.1 (omega arith) in
     let joined : Separated ts a.buffer.now a.from c.if-column-gt0.buffer c.if-column-gt0.out l.column =
     elim c.if-column-gt0.branch [
-      then-column-gt0 w ↦ separated_next l.invariant.1 c.requires.2 w.if-column-gt0.true w.buffer-is w.out-is
-    | else-column-gt0 w ↦ separated_first l.invariant.1 c.requires.2 (omega (arith, w.if-column-gt0.false)) w.buffer-is w.out-is
+      | then-column-gt0 w ↦ separated_next l.invariant.1 c.requires.2 w.if-column-gt0.true w.buffer-is w.out-is
+      | else-column-gt0 w ↦ separated_first l.invariant.1 c.requires.2 (omega (arith, w.if-column-gt0.false)) w.buffer-is w.out-is
     ] in
     let further : l.column < length ts = omega (arith, long, c.loop-column-test.true) in
     let room : c.if-column-gt0.out + length (get_or ts l.column []) ≤ length c.if-column-gt0.buffer = separated_room joined c.requires.2 further in
@@ -90,8 +70,8 @@ slice_bounds-write_alpha_under-end c =
     let long : length ts ≡ a.images.count = texts_long a.images.values a.numbers.values a.images.count c.requires.1 (omega arith) in
     let joined : Separated ts a.buffer.now a.from c.if-column-gt0.buffer c.if-column-gt0.out l.column =
     elim c.if-column-gt0.branch [
-      then-column-gt0 w ↦ separated_next l.invariant.1 c.requires.2 w.if-column-gt0.true w.buffer-is w.out-is
-    | else-column-gt0 w ↦ separated_first l.invariant.1 c.requires.2 (omega (arith, w.if-column-gt0.false)) w.buffer-is w.out-is
+      | then-column-gt0 w ↦ separated_next l.invariant.1 c.requires.2 w.if-column-gt0.true w.buffer-is w.out-is
+      | else-column-gt0 w ↦ separated_first l.invariant.1 c.requires.2 (omega (arith, w.if-column-gt0.false)) w.buffer-is w.out-is
     ] in
     let further : l.column < length ts = omega (arith, long, c.loop-column-test.true) in
     let room : c.if-column-gt0.out + length (get_or ts l.column []) ≤ length c.if-column-gt0.buffer = separated_room joined c.requires.2 further in
@@ -105,8 +85,8 @@ overflow_add-out-in-Written c =
     let long : length ts ≡ a.images.count = texts_long a.images.values a.numbers.values a.images.count c.requires.1 (omega arith) in
     let joined : Separated ts a.buffer.now a.from c.if-column-gt0.buffer c.if-column-gt0.out l.column =
     elim c.if-column-gt0.branch [
-      then-column-gt0 w ↦ separated_next l.invariant.1 c.requires.2 w.if-column-gt0.true w.buffer-is w.out-is
-    | else-column-gt0 w ↦ separated_first l.invariant.1 c.requires.2 (omega (arith, w.if-column-gt0.false)) w.buffer-is w.out-is
+      | then-column-gt0 w ↦ separated_next l.invariant.1 c.requires.2 w.if-column-gt0.true w.buffer-is w.out-is
+      | else-column-gt0 w ↦ separated_first l.invariant.1 c.requires.2 (omega (arith, w.if-column-gt0.false)) w.buffer-is w.out-is
     ] in
     let further : l.column < length ts = omega (arith, long, c.loop-column-test.true) in
     let room : c.if-column-gt0.out + length (get_or ts l.column []) ≤ length c.if-column-gt0.buffer = separated_room joined c.requires.2 further in
@@ -129,8 +109,8 @@ loop-column-preserved c =
     let long : length ts ≡ a.images.count = texts_long a.images.values a.numbers.values a.images.count c.requires.1 (omega arith) in
     let joined : Separated ts a.buffer.now a.from c.if-column-gt0.buffer c.if-column-gt0.out l.column =
     elim c.if-column-gt0.branch [
-      then-column-gt0 w ↦ separated_next l.invariant.1 c.requires.2 w.if-column-gt0.true w.buffer-is w.out-is
-    | else-column-gt0 w ↦ separated_first l.invariant.1 c.requires.2 (omega (arith, w.if-column-gt0.false)) w.buffer-is w.out-is
+      | then-column-gt0 w ↦ separated_next l.invariant.1 c.requires.2 w.if-column-gt0.true w.buffer-is w.out-is
+      | else-column-gt0 w ↦ separated_first l.invariant.1 c.requires.2 (omega (arith, w.if-column-gt0.false)) w.buffer-is w.out-is
     ] in
     let further : l.column < length ts = omega (arith, long, c.loop-column-test.true) in
     let room : c.if-column-gt0.out + length (get_or ts l.column []) ≤ length c.if-column-gt0.buffer = separated_room joined c.requires.2 further in
@@ -147,8 +127,8 @@ loop-column-preserved c =
     let r = c.write_alpha_under.result in
     let ends : c.match-write_alpha_under.out ≡ c.if-column-gt0.out + length text =
     elim c.match-write_alpha_under.branch [
-      in-Written w ↦ w.out-is ∙ ap (λ (n : ℕ). c.if-column-gt0.out + n) (wrote_length r text size w.in-Written.is)
-    | in_default w ↦ wrote_some r text size w.in_default.is
+      | in-Written w ↦ w.out-is ∙ ap (λ (n : ℕ). c.if-column-gt0.out + n) (wrote_length r text size w.in-Written.is)
+      | in_default w ↦ wrote_some r text size w.in_default.is
     ] in (
       omega arith,
       texting_turns joined c.requires.2 further ends (part_written c.if-column-gt0.buffer c.if-column-gt0.out text bytes),
@@ -169,4 +149,4 @@ returns c =
     let ts = texts a.images a.numbers in
     let long : length ts ≡ a.images.count = texts_long a.images.values a.numbers.values a.images.count c.requires.1 (omega arith) in
     let all = texting_ends l.invariant.1 c.requires.2 (omega (arith, long, l.invariant.0, c.loop-column-test.false)) in
-    record { place = all.0; bytes = all.1; }
+    record { place = all.0; bytes = all.1 }

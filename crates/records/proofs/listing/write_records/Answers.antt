@@ -1,23 +1,10 @@
 -- `write_records` meets its contract. The loop's invariant: the lines that are written, and those of the bodies from the place on, are
 -- all. The measure is what is left of the file. Assumes nothing.
-use Prim.Native.Nat.{ℕ, ◌+◌, ◌-◌, ◌≤◌}
-use mathlib.Core.Path.{ap, ◌∙◌}
+use Prim.Native.Nat.{ℕ, ◌+◌}
+use mathlib.Core.Path.{ap}
 use native.Mathlib.Omega.{arith}
 use lib.ListN.{length}
-use Rattle.codec.proofs.BufferLaws.{written_length}
-use Rattle.records.specs.Listing.{lines_of}
-use Rattle.records.proofs.LinesLaws.{
-  ListedHeld,
-  listed_held,
-  Lining,
-  lining_starts,
-  lining_inside,
-  lining_room,
-  lining_turns,
-  lining_ends,
-  front_has,
-  front_line,
-}
+use Rattle.records.proofs.LinesLaws.{listed_held, lining_starts, lining_inside, lining_room, lining_turns, lining_ends, front_has, front_line}
 use Rattle.records.proofs.listing.write_records.Goals as goal
 
 pub loop-at-init : goal.loop-at-init
@@ -65,4 +52,4 @@ loop-at-preserved c h =
 pub returns : goal.returns
 returns c =
     let h = listed_held c.requires.0 in
-    let all = lining_ends (c.loop-at.invariant h) h.lists.some c.loop-at-test.false in record { place = all.0; bytes = all.1; }
+    let all = lining_ends (c.loop-at.invariant h) h.lists.some c.loop-at-test.false in record { place = all.0; bytes = all.1 }

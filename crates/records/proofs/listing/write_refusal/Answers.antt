@@ -1,12 +1,11 @@
 -- `write_refusal` meets its contract: where there is room, the word, both numbers and the bytes between and behind them are written one
 -- behind the other. Assumes nothing.
 use Prim.Native.Nat.{◌+◌, ◌<◌}
-use mathlib.Core.Path.{◌≡◌, ap, ◌∙◌}
+use mathlib.Core.Path.{◌≡◌, ◌∙◌}
 use native.Mathlib.Omega.{arith}
 use lib.ListN.{length}
-use borrow.Author.Rules.{rules}
 use Rattle.codec.specs.Answers.{within}
-use Rattle.codec.proofs.BufferLaws.{written_length, written_stored}
+use Rattle.codec.proofs.BufferLaws.{written_stored}
 use Rattle.codec.proofs.AlphaLaws.{refused_answers, done_answers}
 use Rattle.records.specs.Listing.{refusal_line}
 use Rattle.records.proofs.WritingLaws.{decimal_few}
@@ -36,7 +35,7 @@ returns-then-buffer-end c =
     omega (arith, c.if-buffer-end.true, refusal_length a.number a.place, n.decimal_length.ensures, p.decimal_length-2.ensures) in
     let room = length a.buffer.now in
     let found = refused_answers (within room line) a.buffer.now (within_none room line long) in
-    record { answer = c.no_room.ensures ∙ found.0; bytes = found.1; }
+    record { answer = c.no_room.ensures ∙ found.0; bytes = found.1 }
 
 pub write_decimal-requires-2 : goal.write_decimal-requires-2
 write_decimal-requires-2 c =
@@ -74,4 +73,4 @@ returns c =
     let all = done_answers (within room line) a.buffer.now (within_some room line (omega arith)) size
     (refusal_written a.number a.place a.buffer.now b.write_bytes.ensures w.write_decimal.ensures
     n.decimal_length.ensures m.decimal_length-2.ensures (omega arith) p.write_decimal-2.ensures
-    ∙ written_stored a.buffer.now line) in record { answer = all.0; bytes = all.1; }
+    ∙ written_stored a.buffer.now line) in record { answer = all.0; bytes = all.1 }

@@ -2,7 +2,6 @@
 use native.Mathlib.Omega.{arith}
 use mathlib.Core.Path.{sym, ◌∙◌}
 use Rattle.records.proofs.CheckLaws.{number_checked, number_refused, text_checked, text_refused}
-use borrow.Author.Rules.{rules}
 use Rattle.records.proofs.printing.check_element.Goals as goal
 
 pub returns-then-is_normal : goal.returns-then-is_normal

@@ -1,8 +1,6 @@
 -- `printing::forecast` meets its contract: refused for the counts, else the product, which is small. Assumes nothing.
-use native.Mathlib.Omega.{arith}
 use mathlib.Core.Path.{sym}
-use Rattle.records.proofs.CheckLaws.{counts_many, counts_long, forecast_done, forecast_refused, forecast_small}
-use borrow.Author.Rules.{rules}
+use Rattle.records.proofs.CheckLaws.{counts_many, counts_long, forecast_done, forecast_refused}
 use Rattle.records.proofs.printing.forecast.Goals as goal
 
 pub returns-then-count-gt-ELEMENTS : goal.returns-then-count-gt-ELEMENTS

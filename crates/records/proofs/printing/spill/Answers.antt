@@ -1,5 +1,4 @@
 -- `printing::spill` meets its contract: a text is never spilled, and a number is where it does not fit the image. Assumes nothing.
-use borrow.Author.Rules.{rules}
 use mathlib.Core.Path.{refl, ap, sym, ◌∙◌}
 use Rattle.decimal.specs.declared.image.Image.{Image}
 use Rattle.decimal.specs.Answer.{check_meaning, checked_only}

@@ -2,12 +2,9 @@
 -- the field, and the counts and the kind are those of the longest field so far. The measure is what is left of the length.
 -- Assumes nothing.
 use Prim.Native.Nat.{◌-◌}
-use mathlib.Core.Path.{refl, sym, ◌∙◌}
-use native.Mathlib.Omega.{arith}
 use lib.ListN.{length}
 use Rattle.decimal.specs.Image.{state_of}
-use Rattle.decimal.proofs.ImageLaws.{hash_once}
-use Rattle.records.proofs.ScanLaws.{Scanning, scanning_starts, scanning_field, scanning_none, scanning_stops, scanning_ends}
+use Rattle.records.proofs.ScanLaws.{Scanning}
 use Rattle.records.proofs.scanning.scan_field.Given as goal
 
 abbrev pub invariant-loop-end : goal.invariant-loop-end

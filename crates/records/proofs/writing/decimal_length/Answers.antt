@@ -1,7 +1,7 @@
 -- `decimal_length` meets its contract. The loop's invariant: so many digits are counted, and the rest is the number without them. The
 -- measure is the rest. Assumes nothing.
 use native.Mathlib.Omega.{arith}
-use Rattle.records.proofs.WritingLaws.{Counted, count_starts, count_few, count_turns, count_ends}
+use Rattle.records.proofs.WritingLaws.{count_starts, count_few, count_turns, count_ends}
 use Rattle.records.proofs.writing.decimal_length.Goals as goal
 
 pub loop-rest-init : goal.loop-rest-init

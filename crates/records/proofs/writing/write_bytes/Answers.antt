@@ -1,5 +1,5 @@
 -- `write_bytes` meets its contract: the bytes are copied into the part of the buffer from the place on. Assumes nothing.
-use Rattle.std.proofs.Common.{◌≡◌, ℕ, ◌+◌, ◌-◌, List, ◌++◌, length, take, drop, ap, ap₂, ◌∙◌, arith}
+use Rattle.std.proofs.Common.{◌≡◌, ℕ, ◌+◌, ◌-◌, List, length, ap₂, ◌∙◌, arith}
 use borrow.Rule.Slice.PartMut.{put_mid}
 use Rattle.records.proofs.WritingLaws.{mid_written}
 use Rattle.records.proofs.writing.write_bytes.Goals as goal

@@ -1,13 +1,9 @@
 -- `write_decimal` meets its contract. The loop's invariant: the digits still to come, written before those that stand, make the whole
 -- text. The measure is their count. Assumes nothing.
-use Prim.Native.Nat.{◌+◌, ◌-◌, ◌%◌, ◌≤◌}
-use mathlib.Core.Path.{◌≡◌, refl, sym, ◌∙◌}
+use Prim.Native.Nat.{◌+◌, ◌-◌, ◌%◌}
+use mathlib.Core.Path.{refl, sym, ◌∙◌}
 use native.Mathlib.Omega.{arith}
-use lib.ListN.{length, length-set}
-use Rattle.decimal.specs.Digits.{digits_of}
-use Rattle.codec.specs.Alpha.{digit_bytes}
-use Rattle.codec.specs.Answers.{written}
-use Rattle.records.specs.Writing.{decimal_text}
+use lib.ListN.{length-set}
 use Rattle.records.proofs.WritingLaws.{decimal_start, decimal_turn, decimal_end}
 use Rattle.records.proofs.writing.write_decimal.Goals as goal
 

@@ -1,10 +1,6 @@
 -- `is_at_most` meets its contract: what the order of two numbers in normal form tells. Assumes nothing.
-use mathlib.Core.Path.{◌≡◌, ap, sym, ◌∙◌}
-use mathlib.Core.Bool.{true}
-use borrow.Author.Rules.{rules}
-use Rattle.decimal.specs.Number.{normal}
+use mathlib.Core.Path.{ap, sym, ◌∙◌}
 use Rattle.decimal.specs.Comparison.{is_at_most, order_meaning}
-use Rattle.rolls.specs.Falling.{at_most}
 use Rattle.rolls.proofs.FallLaws.{ordered, never_refused}
 use Rattle.rolls.proofs.falling.is_at_most.Goals as goal
 

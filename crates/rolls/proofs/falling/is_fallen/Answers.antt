@@ -1,7 +1,6 @@
 -- `is_fallen` meets its contract. Assumes nothing.
 use mathlib.Core.Path.{ap}
 use mathlib.Core.Bool.{not}
-use borrow.Author.Rules.{rules}
 use Rattle.rolls.proofs.falling.is_fallen.Goals as goal
 
 pub returns-then-behind : goal.returns-then-behind

@@ -1,12 +1,8 @@
 -- `check_page` meets its contract: 3, 16, 14, 15 in this order. Assumes nothing.
 use mathlib.Core.Path.{◌≡◌, ap, sym, ◌∙◌}
-use mathlib.Core.Bool.{true}
 use native.Mathlib.Omega.{arith}
-use lib.ListN.{length, get_or, length-map}
-use borrow.Author.Rules.{rules}
-use borrow.Author.Tests.{not-true, not-false}
 use Rattle.decimal.specs.Answer.{done, check_meaning}
-use Rattle.codec.specs.Lists.{max_columns, no_image, image_list}
+use Rattle.codec.specs.Lists.{no_image, image_list}
 use Rattle.codec.proofs.UnderLaws.{image_at}
 use Rattle.rolls.specs.Searching.{position_list, is_unsigned_fixed, check_numbers}
 use Rattle.rolls.proofs.PageLaws.{page_abnormal, page_kind, page_positions, page_records, page_fine}

@@ -7,19 +7,16 @@ use mathlib.Core.List.{List}
 use lib.ListN.{length}
 use Rattle.decimal.specs.declared.image.Image.{Image}
 use native.Mathlib.Omega.{arith}
-use Rattle.decimal.specs.declared.number.Number.{Number}
-use Rattle.decimal.specs.Answer.{done, check_meaning}
+use Rattle.decimal.specs.Answer.{check_meaning}
 use Rattle.decimal.proofs.KeptLaws.{checked_refused}
 use Rattle.codec.proofs.BodyLaws.{checked_done}
 use Rattle.codec.specs.Contents.{contents_of}
 use Rattle.codec.proofs.ContentsLaws.{told_read, told_refused}
 use Rattle.records.specs.Files.{read_file}
-use Rattle.rolls.specs.Falling.{fall}
-use Rattle.rolls.specs.Searching.{max_positions, position_list, keys_in, check_page, found_of, HasContents, Walks}
+use Rattle.rolls.specs.Searching.{max_positions, position_list, check_page, found_of, HasContents}
 use Rattle.rolls.proofs.PageLaws.{positions_count}
 use Rattle.rolls.proofs.KeyLaws.{contents_held}
 use Rattle.rolls.proofs.SearchLaws.{page_taken, search_file, search_many, search_bad, search_page, search_done, found_walked}
-use borrow.Author.Rules.{rules}
 use Rattle.codec.specs.declared.contents.Contents.{Contents}
 use Rattle.decimal.specs.declared.refusal.CheckAnswer.TheVariants as CheckAnswer
 use Prim.Native.Nat.{ℕ}

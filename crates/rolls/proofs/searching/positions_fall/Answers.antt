@@ -1,17 +1,15 @@
 -- `positions_fall` meets its contract. The loop's invariant: no position before the index is below the one before it. The measure is the
 -- positions left. Assumes nothing.
-use Prim.Native.Nat.{◌+◌, ◌-◌, ◌<◌, ◌≤◌}
-use mathlib.Core.Path.{◌≡◌, ap, sym, subst, ◌∙◌}
-use mathlib.Core.Bool.{true, not, ◌&&◌}
+use Prim.Native.Nat.{◌+◌}
+use mathlib.Core.Path.{ap, sym, subst, ◌∙◌}
+use mathlib.Core.Bool.{not, ◌&&◌}
 use native.Mathlib.Omega.{arith}
 use lib.Dec.{ltb}
-use lib.ListN.{length, get_or, length-map}
-use borrow.Author.Rules.{rules}
 use Rattle.decimal.specs.declared.number.Number.{Number}
-use Rattle.decimal.specs.Number.{zero_number, normal}
+use Rattle.decimal.specs.Number.{normal}
 use Rattle.decimal.proofs.NumberLaws.{zero_normal}
 use Rattle.rolls.specs.Falling.{at_most}
-use Rattle.rolls.specs.Searching.{max_positions, position_list}
+use Rattle.rolls.specs.Searching.{position_list}
 use Rattle.rolls.proofs.PageLaws.{nothing, positions_count, position_at, all_normal, Rising, rising_starts, rising_turns, rising_stops, rising_ends}
 use Rattle.rolls.proofs.searching.positions_fall.Goals as goal
 
@@ -34,8 +32,7 @@ loop-index-preserved c =
     let p = c.args.positions in
     let l = c.loop-index in
     let current = position_at p l.index nothing c.loop-index-test.true (omega (arith, c.loop-index-test.true, c.requires.0)) in
-    let is_normal = ap normal current ∙ all_normal (position_list p) c.requires.1 l.index (omega (arith, positions_count p, c.loop-index-test.true)) in
-    (
+    let is_normal = ap normal current ∙ all_normal (position_list p) c.requires.1 l.index (omega (arith, positions_count p, c.loop-index-test.true)) in (
       omega (arith, c.loop-index-test.true),
       is_normal,
       subst (λ (n : Number). Rising (position_list p) (l.index + 1) n) (sym current)

@@ -1,15 +1,11 @@
 -- `walk` meets its contract. The loop over the records keeps `Passing`: the keys that were read, whether they fall, and the walk over them.
 -- The loop over the positions keeps `Walking` with the record's key in front of the others, and the last loop keeps `Filling`. The measures are
 -- the bytes left, and the positions left. Assumes nothing.
-use Prim.Native.Nat.{ℕ, ◌+◌, ◌-◌, ◌<◌, ◌≤◌}
+use Prim.Native.Nat.{ℕ, ◌+◌, ◌-◌, ◌<◌}
 use mathlib.Core.Path.{◌≡◌, refl, ap, sym, subst, ◌∙◌}
-use mathlib.Core.Logic.{⊎_elim}
-use mathlib.Core.Bool.{true}
 use mathlib.Core.List.{List, [], ◌∷◌, ◌++◌}
 use native.Mathlib.Omega.{arith}
-use lib.ListN.{length, take, drop, get_or, length-map}
-use borrow.Author.Rules.{rules}
-use borrow.Author.Tests.{not-true, not-false}
+use lib.ListN.{length, take, drop, get_or}
 use Rattle.decimal.specs.declared.number.Number.{Number}
 use Rattle.decimal.specs.Answer.{done, check_meaning}
 use Rattle.decimal.specs.Number.{zero_number, normal}
@@ -20,12 +16,12 @@ use Rattle.codec.specs.Unpacking.{unpack_body, unpack_under, unpacked_of}
 use Rattle.codec.proofs.UnpackLaws.{unpack_refused, unpack_read, unpack_at}
 use Rattle.records.proofs.LinesLaws.{body_at, part_unpacked}
 use Rattle.rolls.specs.Falling.{at_most}
-use Rattle.rolls.specs.Searching.{max_positions, position_list, check_numbers, walk, HasContents}
+use Rattle.rolls.specs.Searching.{position_list, check_numbers, walk, HasContents}
 use Rattle.rolls.proofs.KeyLaws.{contents_held, contents_some, keying_inside, keying_stops, keying_ends}
 use Rattle.rolls.proofs.FallLaws.{fell, not_fell, fallen_ends}
-use Rattle.rolls.proofs.WalkLaws.{Walking, walking_reads, walking_turns, walking_passes, walking_over, walking_counted, Filling, filling_starts, filling_turns, filling_ends}
+use Rattle.rolls.proofs.WalkLaws.{Walking, walking_reads, walking_turns, walking_passes, walking_over, walking_counted, filling_starts, filling_turns, filling_ends}
 use Rattle.rolls.proofs.PageLaws.{nothing, positions_count, position_at, all_normal}
-use Rattle.rolls.proofs.PassLaws.{Passing, passing_starts, key_normal, passing_turns, pass_refused, pass_done}
+use Rattle.rolls.proofs.PassLaws.{passing_starts, key_normal, passing_turns, pass_refused, pass_done}
 use Rattle.codec.specs.declared.contents.Contents.{Contents}
 use Rattle.codec.specs.declared.unpacking.Unpacked.{Unpacked}
 use Rattle.decimal.specs.declared.refusal.CheckAnswer.TheVariants as CheckAnswer
@@ -116,8 +112,7 @@ settle-preserved c =
     let compared : check_numbers 0 ps ≡ done tt → c.is_at_most.result ≡ at_most (get_or ps c.settle.next zero_number) number =
     λ normals.
     c.is_at_most.ensures (ap normal current ∙ all_normal ps normals c.settle.next more) key
-    ∙ ap (λ (p : Number). at_most p number) current in
-    (
+    ∙ ap (λ (p : Number). at_most p number) current in (
       omega (arith, c.settle-test.true),
       omega (arith, c.settle.invariant.1),
       λ ks w normals.
@@ -148,8 +143,8 @@ loop-at-preserved c =
     let told = c.is_fallen.ensures p.last_normal key in (
       c.settle.invariant.0,
       elim c.settle-test.branch [
-        else-settle-test w ↦ omega (arith, w.comparisons-is, c.settle.invariant.1)
-      | then-settle-test+then-not-is_at_most w ↦ omega (arith, w.comparisons-is, c.settle.invariant.1)
+        | else-settle-test w ↦ omega (arith, w.comparisons-is, c.settle.invariant.1)
+        | then-settle-test+then-not-is_at_most w ↦ omega (arith, w.comparisons-is, c.settle.invariant.1)
       ],
       omega (arith, c.loop-at.invariant.2, (contents_held h).body, contents_some h),
       λ h.
@@ -157,23 +152,23 @@ loop-at-preserved c =
           let r = read_record h c.loop-at.at _ (omega arith) c.unpack_under-unpacked.ensures c.in_default.is in
           passing_turns q c.loop-at-test.true r.reads r.key
           (elim c.if-is_fallen.branch [
-            then-is_fallen w ↦ w.falls-is ∙ fell c.loop-at.falls (sym told ∙ w.if-is_fallen.true)
-          | else-is_fallen w ↦ w.falls-is ∙ not_fell c.loop-at.falls (sym told ∙ w.if-is_fallen.false)
+            | then-is_fallen w ↦ w.falls-is ∙ fell c.loop-at.falls (sym told ∙ w.if-is_fallen.true)
+            | else-is_fallen w ↦ w.falls-is ∙ not_fell c.loop-at.falls (sym told ∙ w.if-is_fallen.false)
           ])
           (λ normals.
           let v = c.settle.invariant.2 q.keys (walking_reads number (q.walks normals)) normals in
           elim c.settle-test.branch [
-            else-settle-test w ↦
-              subst (λ (k : ℕ). Walking ps (q.keys ++ number ∷ []) [] c.settle.next (c.loop-at.record + 1) k c.settle.records) (sym w.comparisons-is)
-              (walking_over v (omega (arith, count, w.settle-test.false)))
-          | then-settle-test+then-not-is_at_most w ↦
-              let more : c.settle.next < length ps = omega (arith, count, w.settle-test.true) in
-              let current = position_at a.positions c.settle.next nothing w.settle-test.true (omega (arith, w.settle-test.true, c.requires.1)) in
-              let compared =
-              w.is_at_most.ensures (ap normal current ∙ all_normal ps normals c.settle.next more) key
-              ∙ ap (λ (p : Number). at_most p number) current in
-              subst (λ (k : ℕ). Walking ps (q.keys ++ number ∷ []) [] c.settle.next (c.loop-at.record + 1) k c.settle.records) (sym w.comparisons-is)
-              (walking_passes v more (sym compared ∙ w.if-not-is_at_most.true))
+            | else-settle-test w ↦
+                subst (λ (k : ℕ). Walking ps (q.keys ++ number ∷ []) [] c.settle.next (c.loop-at.record + 1) k c.settle.records) (sym w.comparisons-is)
+                (walking_over v (omega (arith, count, w.settle-test.false)))
+            | then-settle-test+then-not-is_at_most w ↦
+                let more : c.settle.next < length ps = omega (arith, count, w.settle-test.true) in
+                let current = position_at a.positions c.settle.next nothing w.settle-test.true (omega (arith, w.settle-test.true, c.requires.1)) in
+                let compared =
+                w.is_at_most.ensures (ap normal current ∙ all_normal ps normals c.settle.next more) key
+                ∙ ap (λ (p : Number). at_most p number) current in
+                subst (λ (k : ℕ). Walking ps (q.keys ++ number ∷ []) [] c.settle.next (c.loop-at.record + 1) k c.settle.records) (sym w.comparisons-is)
+                (walking_passes v more (sym compared ∙ w.if-not-is_at_most.true))
           ])
           (ap (λ (k : ℕ). c.loop-at.at + k) (contents_held h).body),
     )
@@ -183,10 +178,10 @@ loop-next-init c = (c.loop-at.invariant.0, λ ps whole e f. f)
 
 pub loop-next-preserved : goal.loop-next-preserved
 loop-next-preserved c = (
-      omega (arith, c.loop-next-test.true),
-      λ ps whole e f.
-          filling_turns (c.loop-next.invariant.1 ps whole e f) (omega (arith, c.loop-next-test.true)) (omega (arith, c.loop-next-test.true, c.requires.1)),
-    )
+  omega (arith, c.loop-next-test.true),
+  λ ps whole e f.
+      filling_turns (c.loop-next.invariant.1 ps whole e f) (omega (arith, c.loop-next-test.true)) (omega (arith, c.loop-next-test.true, c.requires.1)),
+)
 
 pub returns : goal.returns
 returns c =

@@ -1,6 +1,6 @@
 -- `image::Image::checked` meets its contract. The tests that led to each return give the law's bounds on the count of # signs.
 -- Assumes nothing.
-use Rattle.std.proofs.Common.{sym, arith, rules}
+use Rattle.std.proofs.Common.{sym, arith}
 use Rattle.decimal.proofs.ImageLaws.{check_none, check_many, check_within}
 use Rattle.decimal.proofs.image.Image.checked.Goals as goal
 

@@ -1,7 +1,6 @@
 -- `Number::from_parts` meets its contract: the two tests decide `parts_number`, and between them the sum is what the field exponent holds.
 -- The tests and the sum are of what the machine reads back from the exponent's bits, which is the exponent since it fits. Assumes nothing.
-use Rattle.std.proofs.Common.{◌≡◌, T, ℤ, pos, ◌+ℤ◌, nat_abs, sym, ap, ◌∙◌, subst, arith, w64, Fits, SFits, to_z, of_z, rules}
-use lib.Signed.{non_neg}
+use Rattle.std.proofs.Common.{◌≡◌, ℤ, pos, ◌+ℤ◌, nat_abs, sym, ap, ◌∙◌, arith, w64, SFits, to_z, of_z}
 use mir.ValLaws.{to_z-of_z}
 use Rattle.decimal.specs.Number.{exponent_limit, new_number, parts_number}
 use Rattle.decimal.proofs.PartsLaws.{HeldAs, limits_held, parts_held, parts_below, parts_above}

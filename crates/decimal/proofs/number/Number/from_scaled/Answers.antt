@@ -1,5 +1,5 @@
 -- `Number::from_scaled` meets its contract: the tests on the way decide `scaled_number`. Assumes nothing.
-use Rattle.std.proofs.Common.{◌≡◌, sym, refl, ap, ◌∙◌, arith, rules}
+use Rattle.std.proofs.Common.{sym, refl, ap, ◌∙◌, arith}
 use Rattle.decimal.specs.declared.number.Number.{Number}
 use Rattle.decimal.specs.Answer.{Answer, done}
 use Rattle.decimal.specs.Digits.{precision, leading_zeros}

@@ -1,5 +1,5 @@
 -- `Number::new` meets its contract: the number's own test decides `check_number`. Assumes nothing.
-use Rattle.std.proofs.Common.{sym, ◌∙◌, rules}
+use Rattle.std.proofs.Common.{sym, ◌∙◌}
 use Rattle.decimal.proofs.NumberLaws.{check_normal, check_abnormal}
 use Rattle.decimal.proofs.number.Number.new.Goals as goal
 
