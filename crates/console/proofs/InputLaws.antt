@@ -1,9 +1,6 @@
 -- What a caller takes from the answer of reading. Assumes nothing.
-use Prim.Native.Nat.{ℕ}
-use mathlib.Core.Path.{◌≡◌, subst}
-use mathlib.Core.List.{List}
-use Rattle.io.specs.Counts.{IsPrefixLen}
-use Rattle.console.specs.Within.{Within}
+use Rattle.std.proofs.Common.{◌≡◌, ℕ, List, subst}
+use Rattle.console.specs.Within.{IsPrefixLen, Within}
 use Rattle.console.specs.declared.Input.{Input}
 use Rattle.console.specs.declared.Input.TheVariants as gives
 
