@@ -1,5 +1,6 @@
--- What reading promises of its count. Which bytes were read, no contract can say. Assumes nothing.
-use Rattle.std.specs.Prelude.{◌≡◌, ℕ, ◌≤◌, List, length, take}
+-- What reading promises of its count, and of the bytes where the reader's are known, as standard input's are not. Assumes nothing.
+use Rattle.std.specs.Prelude.{◌≡◌, ℕ, ◌<◌, ◌≤◌, List, Option, length, take}
+use Rattle.std.specs.Io.KnownBytes.{Consumes, IsAtEnd}
 use Rattle.console.specs.declared.Input.{Input}
 use Rattle.console.specs.declared.Input.TheVariants.{Bytes, Failed}
 
@@ -11,3 +12,8 @@ IsPrefixLen n bytes = (n ≤ length bytes) × (n ≡ length (take n bytes))
 abbrev pub Within : Input → List ℕ → Type 0
 Within (Bytes n) buffer = IsPrefixLen n buffer
 Within Failed buffer = Unit {0}
+
+-- the bytes that were read are the next ones that the reader had left, and a buffer that is not full took all of them
+abbrev pub Reads : Option (List ℕ) → Option (List ℕ) → Input → List ℕ → Type 0
+Reads old new (Bytes n) buffer = Consumes old new (take n buffer) × (n < length buffer → IsAtEnd new)
+Reads old new Failed buffer = Unit {0}

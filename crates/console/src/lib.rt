@@ -3,7 +3,7 @@
 #![tactic(auto)]
 
 ghost use Rattle.std.specs.Prelude.{◌≡◌, true, length};
-ghost use Rattle.console.specs.Within.{Within};
+ghost use Rattle.console.specs.Within.{Within, Reads};
 
 use std::io;
 use std::io::Read;
@@ -15,23 +15,31 @@ pub enum Input {
     Failed,
 }
 
-// Reads standard input until it ends or the buffer is full; a failed read is told.
-pub fn read_input(rt: &(impl io::Input + Eprint), buffer: &mut [u8]) -> Input
-    ensures { Within result buffer.new }
+// Reads until the reader ends or the buffer is full.
+pub fn read_from<R: Read>(reader: &mut R, buffer: &mut [u8]) -> Input
+    ensures within { Within result buffer.new }
+    ensures bytes { Reads (R.remaining reader.old) (R.remaining reader.new) result buffer.new }
 {
-    let mut reader = rt.reader();
     let mut size = 0;
     while size < buffer.len() {
         match reader.read(&mut buffer[size..]) {
             Ok(0) => return Input::Bytes(size),
             Ok(more) => size += more,
-            Err(_) => {
-                tell(rt, "reading standard input failed\n");
-                return Input::Failed;
-            }
+            Err(_) => return Input::Failed,
         }
     }
     Input::Bytes(size)
+}
+
+// Reads standard input until it ends or the buffer is full; a failed read is told.
+pub fn read_input(rt: &(impl io::Input + Eprint), buffer: &mut [u8]) -> Input
+    ensures { Within result buffer.new }
+{
+    let input = read_from(&mut rt.reader(), buffer);
+    if let Input::Failed = input {
+        tell(rt, "reading standard input failed\n");
+    }
+    input
 }
 
 // Writes bytes to standard output, and gives whether all are written, as no bytes are from the start; a failed write is told.
