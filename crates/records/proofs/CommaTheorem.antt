@@ -6,7 +6,7 @@ use native.Mathlib.Omega.{arith}
 use mathlib.Core.Path.{◌≡◌, refl, ap, sym, subst, subst⁻¹, ◌∙◌}
 use mathlib.Core.Logic.{⊎_elim}
 use mathlib.Core.List.{List, [], ◌∷◌, ◌++◌, append-nil}
-use mathlib.Core.Bool.{Bool, true, false, ◌&&◌, ◌||◌, and_false, or_false, or-true, or_assoc}
+use mathlib.Core.Bool.{Bool, true, false, ◌&&◌, ◌||◌, and-false, or-false, or-true, or_assoc}
 use borrow.Author.Tests.{eqb-true, eq-eqb, lt-ltb, le-ltb, lt-leb}
 use lib.Dec.{ltb, leb, eqb}
 use lib.ListN.{length, take, drop, get_or}
@@ -41,7 +41,7 @@ mark_byte {b} is =
     ⊎_elim
     (λ high.
     ⊎_elim
-    (λ past. ap (λ (c : Bool). leb zero_byte b && c) (le-ltb b (zero_byte + 10) past) ∙ and_false (leb zero_byte b))
+    (λ past. ap (λ (c : Bool). leb zero_byte b && c) (le-ltb b (zero_byte + 10) past) ∙ and-false (leb zero_byte b))
     (λ low. absurd (is.no_digit (b - zero_byte) (omega arith) (omega arith)))
     (le_or_lt (zero_byte + 10) b))
     (λ low. ap (λ (c : Bool). c && ltb b (zero_byte + 10)) (lt-leb zero_byte b low))
@@ -78,7 +78,7 @@ module _ {m : Marks} (valid : ValidMarks m) (s : ℕ) where
       (λ hidden.
       ap (λ (c : Bool). ltb s u || is_digit (pick c m.filling x)) (lt-ltb u s hidden)
       ∙ ap (λ (c : Bool). ltb s u || c) (mark_byte valid.filling_byte)
-      ∙ or_false (ltb s u)
+      ∙ or-false (ltb s u)
       ∙ le-ltb s u (omega arith)
       ∙ sym (le-ltb s (u + 1) (omega arith)))
       (le_or_lt s u)
@@ -91,16 +91,16 @@ module _ {m : Marks} (valid : ValidMarks m) (s : ℕ) where
       go : (k h : Bool) → eqb b comma_byte ≡ k → eqb b hash_byte ≡ h → (k ≡ false → is_digit x ≡ h)
           → (ltb s u || is_digit (pick k (pick (ltb s u) m.thousands m.filling) (pick (h && ltb u s) m.filling x))) ≡ ltb s (pick h (u + 1) u)
       go true true e g fits = let z : comma_byte ≡ hash_byte = sym (eqb-true b comma_byte e) ∙ eqb-true b hash_byte g in absurd (omega arith)
-      go true false e g fits = ap (λ (c : Bool). ltb s u || c) (comma_none (ltb s u)) ∙ or_false (ltb s u)
+      go true false e g fits = ap (λ (c : Bool). ltb s u || c) (comma_none (ltb s u)) ∙ or-false (ltb s u)
       go false true e g fits = hash_digit u x (fits refl)
-      go false false e g fits = ap (λ (c : Bool). ltb s u || c) (fits refl) ∙ or_false (ltb s u)
+      go false false e g fits = ap (λ (c : Bool). ltb s u || c) (fits refl) ∙ or-false (ltb s u)
 
   -- and so among the first bytes
   digit_shown : (p u : ℕ) (bs text : List ℕ) → Matches bs text
       → (ltb s u || has_digit (take p (ruled m s u bs text))) ≡ ltb s (u + hash_count (take p bs))
   unfolding Matches ruled has_digit hash_count
-  digit_shown zero u bs text fits = let same : u ≡ u + 0 = omega arith in or_false (ltb s u) ∙ ap (ltb s) same
-  digit_shown (suc p) u [] text fits = let same : u ≡ u + 0 = omega arith in or_false (ltb s u) ∙ ap (ltb s) same
+  digit_shown zero u bs text fits = let same : u ≡ u + 0 = omega arith in or-false (ltb s u) ∙ ap (ltb s) same
+  digit_shown (suc p) u [] text fits = let same : u ≡ u + 0 = omega arith in or-false (ltb s u) ∙ ap (ltb s) same
   digit_shown (suc p) u (b ∷ bs) text fits =
       let next = pick (eqb b hash_byte) (u + 1) u in
       let rest = has_digit (take p (ruled m s next bs (pick (eqb b comma_byte) text (drop 1 text)))) in

@@ -7,7 +7,7 @@ use native.Mathlib.Nat.{div-lt_iff_lt-mul, div-eq_of_lt, mod-eq_of_lt, le-div_if
 use mathlib.Core.Path.{◌≡◌, refl, ap, sym, subst, subst⁻¹, ◌∙◌}
 use mathlib.Core.Logic.{◌⊎◌, inl, inr, ⊎_elim}
 use mathlib.Core.List.{List, [], ◌∷◌, ◌++◌, append-nil}
-use mathlib.Core.Bool.{Bool, true, false, not, ◌&&◌, and_false}
+use mathlib.Core.Bool.{Bool, true, false, not, ◌&&◌, and-false}
 use borrow.Author.Tests.{eq-eqb, ne_eqb, lt-ltb, le-ltb}
 use lib.Dec.{ltb, eqb}
 use lib.ListN.{length, take, drop, get_or, length-append, get_or-append}
@@ -262,7 +262,7 @@ module _ (m : Marks) (im : Image) (t : Truncated) (below : t.whole < 10 ^ hashes
       ap (λ (b : Bool). b && ltb (u + 1) im.integer) (ne_eqb (get_or all_digits u 0) 0 some))
       (λ e.
       ap (λ (b : Bool). eqb (get_or all_digits u 0) 0 && b) (le-ltb (u + 1) im.integer (omega (arith, e.1)))
-      ∙ and_false (eqb (get_or all_digits u 0) 0))
+      ∙ and-false (eqb (get_or all_digits u 0) 0))
       hidden_are
 
   -- what the machine hides
@@ -486,7 +486,7 @@ ruled_plain m u (b ∷ bs) (c ∷ text) none size =
     next = pick (eqb b hash_byte) (u + 1) u
 
     shown : (eqb b hash_byte && ltb u 0) ≡ false
-    shown = ap (λ (l : Bool). eqb b hash_byte && l) (le-ltb u 0 (omega arith)) ∙ and_false (eqb b hash_byte)
+    shown = ap (λ (l : Bool). eqb b hash_byte && l) (le-ltb u 0 (omega arith)) ∙ and-false (eqb b hash_byte)
 
     go : (k : Bool)
         → length (pick k (without_commas bs) (b ∷ without_commas bs)) ≡ suc (length bs)

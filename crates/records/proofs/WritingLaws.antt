@@ -1,4 +1,5 @@
 -- Laws of bytes and whole numbers written into a buffer. Assumes nothing.
+use borrow.Rule.Slice.PartMut.{put_mid}
 use Prim.Native.Nat.{ℕ, zero, suc, ◌+◌, ◌-◌, ◌*◌, ◌/◌, ◌%◌, ◌^◌, ◌<◌, ◌≤◌}
 use native.Mathlib.Nat.{add-zero, mul_comm, mul-le-mul_right, mod-eq_of_lt}
 use native.Mathlib.Nat.{div-one, div-div-eq-div-mul, div-lt_iff_lt-mul, le-div_iff_mul-le}
@@ -102,6 +103,13 @@ part_written b place bytes {last} h =
     ∙ ap (λ (l : List ℕ). bytes ++ l) (drop-drop (length bytes) place b) in
     ap₂ (λ (x y : List ℕ). take place b ++ (x ++ y)) stored (behind_none b place)
     ∙ ap (λ (l : List ℕ). take place b ++ l) (append-nil (bytes ++ drop (place + length bytes) b))
+    ∙ sym (append_assoc (take place b) bytes (drop (place + length bytes) b))
+
+-- bytes put in the place of as many of the buffer's are written there
+pub mid_written : (b : List ℕ) (place : ℕ) (bytes : List ℕ) → put_mid place (length bytes) b bytes ≡ written b place bytes
+unfolding written
+mid_written b place bytes =
+    ap (λ (l : List ℕ). take place b ++ (bytes ++ l)) (drop-drop (length bytes) place b)
     ∙ sym (append_assoc (take place b) bytes (drop (place + length bytes) b))
 
 -- and so it does where they are copied into it

@@ -8,7 +8,8 @@ pub(crate) fn write_bytes(source: &[u8], buffer: &mut [u8], at: usize)
     requires { at + length source.now ≤ length buffer.old }
     ensures { buffer.new ≡ written buffer.old at source.now }
 {
-    bytes::copy(source, &mut buffer[at..]);
+    let end = at + source.len();
+    buffer[at..end].copy_from_slice(source);
 }
 
 // The count of digits of a whole number in decimal.
