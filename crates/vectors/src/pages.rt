@@ -9,10 +9,8 @@ use std::io::Write;
 // The numbers of a list as positions.
 fn positions_of(numbers: Numbers) -> Positions {
     let mut values = [Number::ZERO; POSITIONS];
-    let mut i = 0;
-    while i < COLUMNS {
+    for i in 0..COLUMNS {
         values[i] = numbers.values[i];
-        i += 1;
     }
     Positions {
         values,
@@ -22,13 +20,11 @@ fn positions_of(numbers: Numbers) -> Positions {
 
 // Writes the first counts, a blank before each.
 fn print_counts(out: &mut impl Write, counts: [usize; POSITIONS], count: usize) -> io::Result<()> {
-    let mut i = 0;
-    while i < POSITIONS {
+    for i in 0..POSITIONS {
         if i < count {
             print_raw(out, b" ")?;
             print_count(out, counts[i])?;
         }
-        i += 1;
     }
     Ok(())
 }
