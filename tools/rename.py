@@ -62,7 +62,7 @@ def declared(root):
                     if m and m.group(1) not in ("use", "mod", "record", "data"):
                         found.add(m.group(1))
                 elif kind or inside:
-                    m = re.match(r"  (?:(?:pub|abbrev|unfoldable)\s+)*([^\s:(){},;=.]+)\s+:(?:\s|$)", text)
+                    m = re.match(r" +(?:(?:pub|abbrev|unfoldable)\s+)*([^\s:(){},;=.]+)\s+:(?:\s|$)", text)
                     if m:
                         found.add(m.group(1))
     return {n for n in found if is_odd(n)}

@@ -29,7 +29,7 @@ use Rattle.decimal.proofs.ImageLaws.{times_length, read_done}
 use Rattle.decimal.proofs.TruncationLaws.{truncation_fit, truncation_done}
 use Rattle.decimal.proofs.AnswerLaws.{never, one_answer}
 use Rattle.codec.specs.Answers.{stored_in, within, sized, written}
-use Rattle.codec.proofs.FitLaws.{truncation-held, truncation-held-by}
+use Rattle.codec.proofs.FitLaws.{truncation_held, truncation_held_by}
 use Rattle.codec.proofs.BufferLaws.{written_pasted, written_none, written_stored, written_length, written_next}
 use Rattle.codec.specs.Columns.{sign_count}
 use Rattle.codec.specs.Packing.{exponent_size, held_by, Held}
@@ -423,8 +423,8 @@ truncation_found im n r e a = go (truncation 0 im n) refl
         record {
           to = t;
           truncated = h;
-          same = truncation-held-by im n fit r e ∙ sym (truncation_done 0 im n h);
-          is_held = truncation-held im n fit r e;
+          same = truncation_held_by im n fit r e ∙ sym (truncation_done 0 im n h);
+          is_held = truncation_held im n fit r e;
         }
     go (refused number place) h = held_never im n r number place (e ∙ ap truncation_of h) a
 
@@ -479,19 +479,19 @@ module _ (im : Image) (n : Number) where
 
   module _ (room : ℕ) where
     -- a number that has no text is refused as that says
-    pub writing-under-refused : {number place : ℕ} → alpha_under im n ≡ refused number place → writing_alpha_under im n room ≡ refused number place
+    pub writing_under_refused : {number place : ℕ} → alpha_under im n ≡ refused number place → writing_alpha_under im n room ≡ refused number place
     unfolding writing_alpha_under ◌then◌
-    writing-under-refused h = rw h
+    writing_under_refused h = rw h
 
     -- a text that is too long is refused with 6
-    pub writing-under-long : {text : List ℕ} → alpha_under im n ≡ done text → room < length text → writing_alpha_under im n room ≡ refused 6 0
+    pub writing_under_long : {text : List ℕ} → alpha_under im n ≡ done text → room < length text → writing_alpha_under im n room ≡ refused 6 0
     unfolding writing_alpha_under ◌then◌ within
-    writing-under-long {text} h long = rw (h, lt-ltb room (length text) long)
+    writing_under_long {text} h long = rw (h, lt-ltb room (length text) long)
 
     -- any other is written
-    pub writing-under-done : {text : List ℕ} → alpha_under im n ≡ done text → length text ≤ room → writing_alpha_under im n room ≡ done text
+    pub writing_under_done : {text : List ℕ} → alpha_under im n ≡ done text → length text ≤ room → writing_alpha_under im n room ≡ done text
     unfolding writing_alpha_under ◌then◌ within
-    writing-under-done {text} h fits = rw (h, le-ltb room (length text) fits)
+    writing_under_done {text} h fits = rw (h, le-ltb room (length text) fits)
 
 module _ (bytes : List ℕ) (n : Number) where
   -- 1 and 2 come first
@@ -501,34 +501,34 @@ module _ (bytes : List ℕ) (n : Number) where
 
   module _ (im : Image) (read : read_image 0 bytes ≡ done im) where
     -- else the answer is that under the image
-    pub alpha-read : alpha_of bytes n ≡ alpha_under im n
+    pub alpha_read : alpha_of bytes n ≡ alpha_under im n
     unfolding alpha_of ◌then◌
-    alpha-read = rw read
+    alpha_read = rw read
 
     -- so is the call's
-    pub writing-read : (room : ℕ) → writing_alpha bytes n room ≡ writing_alpha_under im n room
+    pub writing_read : (room : ℕ) → writing_alpha bytes n room ≡ writing_alpha_under im n room
     unfolding writing_alpha writing_alpha_under
-    writing-read room = ap (λ (a : Answer (List ℕ)). a then within room) alpha-read
+    writing_read room = ap (λ (a : Answer (List ℕ)). a then within room) alpha_read
 
     -- a number that the image can truncate has a text
-    pub alpha-done : {t : Truncated} → truncation 0 im n ≡ done t → alpha_of bytes n ≡ done (alpha_text im t)
-    alpha-done h = alpha-read ∙ under_done im n h
+    pub alpha_done : {t : Truncated} → truncation 0 im n ≡ done t → alpha_of bytes n ≡ done (alpha_text im t)
+    alpha_done h = alpha_read ∙ under_done im n h
 
   -- Published: the text has the image's length.
   pub alpha_length : {text : List ℕ} → alpha_of bytes n ≡ done text → length text ≡ length bytes
   alpha_length {text} h = go (read_image 0 bytes) refl
     where
       go : (a : Answer Image) → read_image 0 bytes ≡ a → length text ≡ length bytes
-      go (done im) read = alpha_under_length im n (sym (alpha-read im read) ∙ h) ∙ sym (read_length 0 bytes read)
+      go (done im) read = alpha_under_length im n (sym (alpha_read im read) ∙ h) ∙ sym (read_length 0 bytes read)
       go (refused number place) read = never (alpha_image read) h
 
   module _ (room : ℕ) where
     -- a number that has no text is refused as that says
-    pub writing-refused : {number place : ℕ} → alpha_of bytes n ≡ refused number place → writing_alpha bytes n room ≡ refused number place
+    pub writing_refused : {number place : ℕ} → alpha_of bytes n ≡ refused number place → writing_alpha bytes n room ≡ refused number place
     unfolding writing_alpha ◌then◌
-    writing-refused h = rw h
+    writing_refused h = rw h
 
     -- a text for which there is room is written
-    pub writing-done : {text : List ℕ} → alpha_of bytes n ≡ done text → length text ≤ room → writing_alpha bytes n room ≡ done text
+    pub writing_done : {text : List ℕ} → alpha_of bytes n ≡ done text → length text ≤ room → writing_alpha bytes n room ≡ done text
     unfolding writing_alpha ◌then◌ within
-    writing-done {text} h fits = rw (h, le-ltb room (length text) fits)
+    writing_done {text} h fits = rw (h, le-ltb room (length text) fits)

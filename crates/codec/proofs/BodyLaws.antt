@@ -267,36 +267,36 @@ module _ (ims : List Image) (ns : List Number) (room : ℕ) where
 
   module _ (good : check_images ims ≡ done tt) where
     -- what the list is packed to, and then the room
-    under-list : {a : Answer (List ℕ)} → pack_list ims ns ≡ a → packing_under ims ns room ≡ (a then within room)
+    under_list : {a : Answer (List ℕ)} → pack_list ims ns ≡ a → packing_under ims ns room ≡ (a then within room)
     unfolding packing_under
-    under-list h = rw (pack_under_checked ims ns good, h)
+    under_list h = rw (pack_under_checked ims ns good, h)
 
     -- 10 for a list of another length
-    pub under-length : (length ns ≡ length ims → ⊥) → packing_under ims ns room ≡ refused 10 0
+    pub under_length : (length ns ≡ length ims → ⊥) → packing_under ims ns room ≡ refused 10 0
     unfolding pack_list ◌then◌
-    under-length h = under-list {a = refused 10 0} (rw (ne_eqb (length ns) (length ims) h))
+    under_length h = under_list {a = refused 10 0} (rw (ne_eqb (length ns) (length ims) h))
 
     module _ (same : length ns ≡ length ims) where
       -- a list of the right length is packed column by column
-      list-columns : pack_list ims ns ≡ pack_columns 0 ims ns
+      list_columns : pack_list ims ns ≡ pack_columns 0 ims ns
       unfolding pack_list
-      list-columns = rw (eq-eqb (length ns) (length ims) same)
+      list_columns = rw (eq-eqb (length ns) (length ims) same)
 
       -- refused as the columns are
-      pub under-columns : {x y : ℕ} → pack_columns 0 ims ns ≡ refused x y → packing_under ims ns room ≡ refused x y
+      pub under_columns : {x y : ℕ} → pack_columns 0 ims ns ≡ refused x y → packing_under ims ns room ≡ refused x y
       unfolding ◌then◌
-      under-columns h = under-list (list-columns ∙ h)
+      under_columns h = under_list (list_columns ∙ h)
 
       module _ {body : List ℕ} (packed : pack_columns 0 ims ns ≡ done body) where
         -- 6 where the body is longer than the buffer
-        pub under-room : room < length body → packing_under ims ns room ≡ refused 6 0
+        pub under_room : room < length body → packing_under ims ns room ≡ refused 6 0
         unfolding ◌then◌ within
-        under-room h = under-list (list-columns ∙ packed) ∙ rw (lt-ltb room (length body) h)
+        under_room h = under_list (list_columns ∙ packed) ∙ rw (lt-ltb room (length body) h)
 
         -- else the body
         pub under_done : length body ≤ room → packing_under ims ns room ≡ done body
         unfolding ◌then◌ within
-        under_done h = under-list (list-columns ∙ packed) ∙ rw (le-ltb room (length body) h)
+        under_done h = under_list (list_columns ∙ packed) ∙ rw (le-ltb room (length body) h)
 
 -- Published: a list is packed exactly where it packs, and its body has the length that the images say.
 

@@ -24,8 +24,8 @@ use Rattle.codec.specs.Halves.{pack_halves}
 use Rattle.codec.specs.Packing.{exponent_size, column_bytes, held_by}
 use Rattle.codec.proofs.BufferLaws.{written_one}
 use Rattle.codec.proofs.HalfLaws.{exponent_small}
-use Rattle.codec.proofs.FitLaws.{stored_top, fixed_stored, truncation-held-by}
-use Rattle.codec.proofs.RunLaws.{column_front, front_length, front_halves, run_length, run_behind, bytes-even, bytes-odd, bytes_even_fixed, bytes_odd_fixed}
+use Rattle.codec.proofs.FitLaws.{stored_top, fixed_stored, truncation_held_by}
+use Rattle.codec.proofs.RunLaws.{column_front, front_length, front_halves, run_length, run_behind, bytes_even, bytes_odd, bytes_even_fixed, bytes_odd_fixed}
 
 -- a column has at most one sign half
 pub sign_few : (s : Sign) → sign_count s ≤ 1
@@ -57,14 +57,14 @@ pub size_held :
     → size ≡ pick (ltb r.x exponent_limit) (exponent_limit - r.x) (r.x - exponent_limit)
     → size ≡ exponent_size (truncated_to im n)
 unfolding exponent_size
-size_held im n fit r made e = e ∙ ap exponent_size (truncation-held-by im n fit r made)
+size_held im n fit r made e = e ∙ ap exponent_size (truncation_held_by im n fit r made)
 
 -- the run of the code's truncation
 pub run_held :
     (im : Image) (n : Number) (fit : Fit im n) (r : Truncation) (made : r ≡ truncation_of (truncation 0 im n)) {run : ℕ}
     → run ≡ packed_of (column_front im (held_by r))
     → run ≡ packed_of (column_front im (truncated_to im n))
-run_held im n fit r made e = e ∙ ap (λ (t : Truncated). packed_of (column_front im t)) (truncation-held-by im n fit r made)
+run_held im n fit r made e = e ∙ ap (λ (t : Truncated). packed_of (column_front im t)) (truncation_held_by im n fit r made)
 
 module _ (im : Image) (n : Number) (fit : Fit im n) where
   -- |x| is within its limits
@@ -90,16 +90,16 @@ module _ (im : Image) (n : Number) (fit : Fit im n) where
       -- an even count of half bytes before the exponent
       module _ (even : sign_count im.sign + hashes im ≡ 2 * k) (wrote : after ≡ written b start (pack_halves (halves_in (2 * k) run))) where
         -- in fixed point there is nothing behind them
-        pub wrote-even-fixed : im.exponential ≡ false → after ≡ written b start (column_bytes im (truncated_to im n))
-        wrote-even-fixed kind =
+        pub wrote_even_fixed : im.exponential ≡ false → after ≡ written b start (column_bytes im (truncated_to im n))
+        wrote_even_fixed kind =
             wrote
             ∙ ap (λ (r : ℕ). written b start (pack_halves (halves_in (2 * k) r))) front
             ∙ ap (written b start) (bytes_even_fixed im (truncated_to im n) k even kind)
 
         -- exponential: a byte with |x|
-        pub wrote-even :
+        pub wrote_even :
             im.exponential ≡ true → set after (start + k) (bit_or (size / 10 * 2 ^ 4 % 2 ^ 8) (size % 10)) ≡ written b start (column_bytes im (truncated_to im n))
-        wrote-even kind =
+        wrote_even kind =
             let t : Truncated = truncated_to im n in
             let x : ℕ = exponent_size t in
             let small : exponent_size t ≤ exponent_limit = size_small in
@@ -108,22 +108,22 @@ module _ (im : Image) (n : Number) (fit : Fit im n) where
             ap₂ (λ (l : List ℕ) (v : ℕ). set l (start + k) v) wrote byte
             ∙ written_one b start (pack_halves (halves_in (2 * k) run)) (x / 10 * 16 + x % 10) k (run_length k run) (omega (arith, size_kind im kind))
             ∙ ap (λ (r : ℕ). written b start (pack_halves (halves_in (2 * k) r) ++ (x / 10 * 16 + x % 10) ∷ [])) front
-            ∙ ap (written b start) (bytes-even im t size_small k even kind)
+            ∙ ap (written b start) (bytes_even im t size_small k even kind)
 
       -- an odd count
       module _ (odd : sign_count im.sign + hashes im + 1 ≡ 2 * k) (few : sign_count im.sign + hashes im < 16) (wrote : after ≡ written b start (pack_halves (halves_in (2 * k) (bit_or (run * 2 ^ 4 % 2 ^ 64) (size / 10))))) where
         -- in fixed point a zero half is behind them
-        pub wrote-odd-fixed : im.exponential ≡ false → after ≡ written b start (column_bytes im (truncated_to im n))
-        wrote-odd-fixed kind =
+        pub wrote_odd_fixed : im.exponential ≡ false → after ≡ written b start (column_bytes im (truncated_to im n))
+        wrote_odd_fixed kind =
             wrote
             ∙ ap (λ (r : ℕ). written b start (pack_halves (halves_in (2 * k) r)))
             (behind few ∙ ap (λ (x : ℕ). packed_of (column_front im (truncated_to im n) ++ x / 10 ∷ [])) (size_none kind))
             ∙ ap (written b start) (bytes_odd_fixed im (truncated_to im n) k odd kind)
 
         -- exponential: the first digit of |x|, and a byte with the second
-        pub wrote-odd :
+        pub wrote_odd :
             im.exponential ≡ true → set after (start + k) (size % 10 * 2 ^ 4 % 2 ^ 8) ≡ written b start (column_bytes im (truncated_to im n))
-        wrote-odd kind =
+        wrote_odd kind =
             let t : Truncated = truncated_to im n in
             let x : ℕ = exponent_size t in
             let made : ℕ = bit_or (run * 2 ^ 4 % 2 ^ 64) (size / 10) in
@@ -132,4 +132,4 @@ module _ (im : Image) (n : Number) (fit : Fit im n) where
             ap₂ (λ (l : List ℕ) (v : ℕ). set l (start + k) v) wrote byte
             ∙ written_one b start (pack_halves (halves_in (2 * k) made)) (x % 10 * 16) k (run_length k made) (omega (arith, size_kind im kind))
             ∙ ap (λ (r : ℕ). written b start (pack_halves (halves_in (2 * k) r) ++ (x % 10 * 16) ∷ [])) (behind few)
-            ∙ ap (written b start) (bytes-odd im t size_small k odd kind)
+            ∙ ap (written b start) (bytes_odd im t size_small k odd kind)

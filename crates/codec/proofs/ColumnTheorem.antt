@@ -23,9 +23,9 @@ use Rattle.decimal.specs.Truncation.{is_signed, whole_of, exceeds, exponent_outs
 use Rattle.decimal.proofs.BoolLaws.{and_true, zero_or_not}
 use Rattle.decimal.proofs.PowerLaws.{pow10_pos, pow10_add, pow10_suc, pow10_mono}
 use Rattle.decimal.proofs.DigitLaws.{le_or_lt, leading_unique, leading_low, leading_top, leading_more, leading_at_most, digits_length, digits_are_digits, value_of_digits, value_below, digits_of_value}
-use Rattle.decimal.proofs.NumberLaws.{InRange, normal_range, range_normal, zero_normal, scaled_zero, scaled_shifted, shifted-below, shifted-above, shifted-done}
-use Rattle.decimal.proofs.TruncationLaws.{truncation_fit, fit_truncation, packed_refused, packed-signed, packed-negative, packed-unsigned, exceeds_zero, exceeds_range, outside_zero, outside_above, stored_zero, stored_exponential, stored_fixed, kept_exponential, kept_fixed}
-use Rattle.decimal.proofs.KeptLaws.{whole_zero, kept_whole, kept_none, number-none, number-some}
+use Rattle.decimal.proofs.NumberLaws.{InRange, normal_range, range_normal, zero_normal, scaled_zero, scaled_shifted, shifted_below, shifted_above, shifted_done}
+use Rattle.decimal.proofs.TruncationLaws.{truncation_fit, fit_truncation, packed_refused, packed_signed, packed_negative, packed_unsigned, exceeds_zero, exceeds_range, outside_zero, outside_above, stored_zero, stored_exponential, stored_fixed, kept_exponential, kept_fixed}
+use Rattle.decimal.proofs.KeptLaws.{whole_zero, kept_whole, kept_none, number_none, number_some}
 use Rattle.decimal.proofs.AnswerLaws.{never_done, never, one_answer}
 use Rattle.codec.specs.Lists.{any_of}
 use Rattle.codec.specs.Columns.{Checked, sign_count, exponent_count, half_count, pad_count, column_size}
@@ -105,11 +105,11 @@ packed_view place im n {t} h = go (truncation place im n) refl
   where
     signed : Fit im n → (b : Bool) → is_signed im.sign ≡ b → Packing im n t
     signed fit true s =
-        record { fit = fit; cut = one_answer h (packed-signed place im n fit s); room = λ u. two_values s u }
+        record { fit = fit; cut = one_answer h (packed_signed place im n fit s); room = λ u. two_values s u }
     signed fit false s =
         ⊎_elim
-        (λ le. record { fit = fit; cut = one_answer h (packed-unsigned place im n fit s le); room = λ u. le })
-        (λ lt. never (packed-negative place im n fit s lt) h)
+        (λ le. record { fit = fit; cut = one_answer h (packed_unsigned place im n fit s le); room = λ u. le })
+        (λ lt. never (packed_negative place im n fit s lt) h)
         (le_or_lt exponent_limit (stored_exponent im n))
 
     go : (a : Answer Truncated) → truncation place im n ≡ a → Packing im n t
@@ -121,8 +121,8 @@ pub packed_back : (place : ℕ) (im : Image) (n : Number) {t : Truncated} → Pa
 packed_back place im n {t} p = go (is_signed im.sign) refl ∙ ap {B = Answer Truncated} done (sym p.cut)
   where
     go : (b : Bool) → is_signed im.sign ≡ b → packed_truncation place im n ≡ done (truncated_to im n)
-    go true s = packed-signed place im n p.fit s
-    go false s = packed-unsigned place im n p.fit s (p.room s)
+    go true s = packed_signed place im n p.fit s
+    go false s = packed_unsigned place im n p.fit s (p.room s)
 
 -- The bounds of what is packed.
 
@@ -237,18 +237,18 @@ module _ (im : Image) (t : Truncated) (kept : Kept im t) where
 
   module _ (sign : ℕ) (tells : SignTells t sign) where
     -- the sign half, k and |x| say the truncation
-    said-again : said_by sign t.whole (exponent_size t) ≡ t
+    said_again : said_by sign t.whole (exponent_size t) ≡ t
     unfolding said_by exponent_size
-    said-again = truncated_path tells.minus refl (rw tells.below (go (ltb t.x exponent_limit) refl))
+    said_again = truncated_path tells.minus refl (rw tells.below (go (ltb t.x exponent_limit) refl))
       where
         go : (b : Bool) → ltb t.x exponent_limit ≡ b → pick b (exponent_limit - pick b (exponent_limit - t.x) (t.x - exponent_limit)) (exponent_limit + pick b (exponent_limit - t.x) (t.x - exponent_limit)) ≡ t.x
         go true e = omega (arith, ltb-true t.x exponent_limit e)
         go false e = omega (arith, ltb-false t.x exponent_limit e)
 
     -- and break no rule
-    breaks-none : breaks_rules im sign t.whole (exponent_size t) ≡ false
+    breaks_none : breaks_rules im sign t.whole (exponent_size t) ≡ false
     unfolding breaks_rules
-    breaks-none =
+    breaks_none =
         five_none (leb 2 (sign % 8)) (minus_bit sign && eqb t.whole 0) (below_bit sign && eqb (exponent_size t) 0)
         (eqb t.whole 0 && leb 1 (exponent_size t))
         (im.exponential && (leb 1 t.whole && ltb (t.whole * 10) (10 ^ hashes im)))
@@ -277,21 +277,21 @@ module _ (s d e z : List ℕ) (a h x : ℕ) (first : length s ≡ a) where
 
   module _ (second : length d ≡ h) where
     -- the second part
-    part-second : take h (drop a (s ++ (d ++ (e ++ z)))) ≡ d
-    part-second = ap (take h) behind_first ∙ take_at d (e ++ z) h second
+    part_second : take h (drop a (s ++ (d ++ (e ++ z)))) ≡ d
+    part_second = ap (take h) behind_first ∙ take_at d (e ++ z) h second
 
     -- what stands behind it
-    behind-second : drop (a + h) (s ++ (d ++ (e ++ z))) ≡ e ++ z
-    behind-second = sym (drop-drop h a (s ++ (d ++ (e ++ z)))) ∙ ap (drop h) behind_first ∙ drop_at d (e ++ z) h second
+    behind_second : drop (a + h) (s ++ (d ++ (e ++ z))) ≡ e ++ z
+    behind_second = sym (drop-drop h a (s ++ (d ++ (e ++ z)))) ∙ ap (drop h) behind_first ∙ drop_at d (e ++ z) h second
 
     module _ (third : length e ≡ x) where
       -- the third part
-      part-third : take x (drop (a + h) (s ++ (d ++ (e ++ z)))) ≡ e
-      part-third = ap (take x) behind-second ∙ take_at e z x third
+      part_third : take x (drop (a + h) (s ++ (d ++ (e ++ z)))) ≡ e
+      part_third = ap (take x) behind_second ∙ take_at e z x third
 
       -- the last part
-      part-last : drop (a + (h + x)) (s ++ (d ++ (e ++ z))) ≡ z
-      part-last =
+      part_last : drop (a + (h + x)) (s ++ (d ++ (e ++ z))) ≡ z
+      part_last =
           sym (drop-drop (h + x) a (s ++ (d ++ (e ++ z))))
           ∙ ap (drop (h + x)) behind_first
           ∙ sym (drop-drop x h (d ++ (e ++ z)))
@@ -397,21 +397,21 @@ module _ (im : Image) (t : Truncated) where
   column_digits : digit_part im (column_halves im t) ≡ digits_of (hashes im) t.whole
   unfolding digit_part column_halves
   column_digits =
-      part-second signs places exponents pads (sign_count im.sign) (hashes im) (exponent_count im.exponential)
+      part_second signs places exponents pads (sign_count im.sign) (hashes im) (exponent_count im.exponential)
       (sign_halves_length im.sign t) (digits_length (hashes im) t.whole)
 
   -- the digits of |x|
   column_exponent : exponent_part im (column_halves im t) ≡ exponent_halves im.exponential t
   unfolding exponent_part column_halves
   column_exponent =
-      part-third signs places exponents pads (sign_count im.sign) (hashes im) (exponent_count im.exponential)
+      part_third signs places exponents pads (sign_count im.sign) (hashes im) (exponent_count im.exponential)
       (sign_halves_length im.sign t) (digits_length (hashes im) t.whole) (exponent_halves_length im.exponential t)
 
   -- the padding
   column_pad : pad_part im (column_halves im t) ≡ zeros (pad_count im)
   unfolding pad_part column_halves
   column_pad =
-      part-last signs places exponents pads (sign_count im.sign) (hashes im) (exponent_count im.exponential)
+      part_last signs places exponents pads (sign_count im.sign) (hashes im) (exponent_count im.exponential)
       (sign_halves_length im.sign t) (digits_length (hashes im) t.whole) (exponent_halves_length im.exponential t)
 
   -- its bytes have its halves
@@ -421,39 +421,39 @@ module _ (im : Image) (t : Truncated) where
 
   module _ (kept : Kept im t) where
     -- the sign half of a column's halves
-    column-sign-tells : SignTells t (sign_part im.sign (column_halves im t))
+    column_sign_tells : SignTells t (sign_part im.sign (column_halves im t))
     unfolding column_halves
-    column-sign-tells = sign_part_tells im.sign t (places ++ (exponents ++ pads)) (no_sign_tells im t kept)
+    column_sign_tells = sign_part_tells im.sign t (places ++ (exponents ++ pads)) (no_sign_tells im t kept)
 
     -- the value of the digits is k
-    column-value : value_of (digit_part im (column_halves im t)) ≡ t.whole
-    column-value = ap value_of column_digits ∙ value_of_digits (hashes im) t.whole kept.size
+    column_value : value_of (digit_part im (column_halves im t)) ≡ t.whole
+    column_value = ap value_of column_digits ∙ value_of_digits (hashes im) t.whole kept.size
 
     -- the value of the digits of |x| is |x|
-    column-exponent-value : value_of (exponent_part im (column_halves im t)) ≡ exponent_size t
-    column-exponent-value =
+    column_exponent_value : value_of (exponent_part im (column_halves im t)) ≡ exponent_size t
+    column_exponent_value =
         ap value_of column_exponent
         ∙ exponent_halves_value im.exponential t (size_few t kept.top)
         (λ f. let e = kept.fixed_x f in omega (arith, size_above t (omega arith)))
 
     -- a column's halves are read as the number that the truncation stands for
-    halves-back : (column : ℕ) {n : Number} → number_of column im t ≡ done n → halves_number column im (column_halves im t) ≡ done n
-    halves-back column {n} h =
+    halves_back : (column : ℕ) {n : Number} → number_of column im t ≡ done n → halves_number column im (column_halves im t) ≡ done n
+    halves_back column {n} h =
         let hs = column_halves im t in
         let sign = sign_part im.sign hs in
         halves_number_lem column im hs
         (ap all_digits column_digits ∙ digits_pass (digits_of (hashes im) t.whole) (digits_are_digits (hashes im) t.whole))
         (ap all_digits column_exponent ∙ digits_pass (exponent_halves im.exponential t) (exponent_halves_digits im.exponential t))
         (ap all_zero column_pad ∙ zeros_pass (pad_count im))
-        ∙ ap₂ (λ (whole size : ℕ). parts_number column im sign whole size) column-value column-exponent-value
+        ∙ ap₂ (λ (whole size : ℕ). parts_number column im sign whole size) column_value column_exponent_value
         ∙ parts_number_lem column im sign t.whole (exponent_size t)
-        (breaks-none im t kept sign column-sign-tells)
-        (ap (number_of column im) (said-again im t kept sign column-sign-tells) ∙ h)
+        (breaks_none im t kept sign column_sign_tells)
+        (ap (number_of column im) (said_again im t kept sign column_sign_tells) ∙ h)
 
     -- so are its bytes
     pub bytes_back : (column : ℕ) {n : Number} → number_of column im t ≡ done n → unpack_column column im (column_bytes im t) ≡ done n
     unfolding unpack_column
-    bytes_back column h = ap (halves_number column im) column_bytes_halves ∙ halves-back column h
+    bytes_back column h = ap (halves_number column im) column_bytes_halves ∙ halves_back column h
 
 -- a number that fits has one truncation as a number, in every column
 pub record StandsFor (im : Image) (t : Truncated) : Type 0 where
@@ -464,10 +464,10 @@ pub record StandsFor (im : Image) (t : Truncated) : Type 0 where
 fit_stands : (im : Image) (n : Number) → Fit im n → StandsFor im (truncated_to im n)
 fit_stands im n fit =
     ⊎_elim
-    (λ z. record { number = zero_number; stands_for = λ column. number-none im n fit column z })
+    (λ z. record { number = zero_number; stands_for = λ column. number_none im n fit column z })
     (λ nz.
     let some : 0 < kept_count im n = omega arith in
-    record { number = kept_number im n; stands_for = λ column. number-some im n fit some column })
+    record { number = kept_number im n; stands_for = λ column. number_some im n fit some column })
     (zero_or_not (kept_count im n))
 
 -- and of a number that is packed
@@ -535,10 +535,10 @@ scaled_parts column negative whole up down {n} positive fits h =
     ⊎_elim
     (λ room.
     ⊎_elim
-    (λ top. same room top (one_answer given (shifted-done column negative whole up down z room top)))
-    (λ above. never (shifted-above column negative whole up down z room above) given)
+    (λ top. same room top (one_answer given (shifted_done column negative whole up down z room top)))
+    (λ above. never (shifted_above column negative whole up down z room above) given)
     (le_or_lt (exponent_limit + (precision - 1) + up - (down + z)) (2 * exponent_limit)))
-    (λ below. never (shifted-below column negative whole up down z below) given)
+    (λ below. never (shifted_below column negative whole up down z below) given)
     (le_or_lt (down + z) (exponent_limit + (precision - 1) + up))
   where
     z : ℕ
@@ -591,21 +591,21 @@ module _ (im : Image) (checked : Checked im) (t : Truncated) (kept : Kept im t) 
     lead = leading_zeros precision t.whole
 
     -- k has at most a mantissa's digits
-    whole-fits : t.whole < 10 ^ precision
-    whole-fits = lt_of_lt_of_le kept.size (pow10_mono checked.fits)
+    whole_fits : t.whole < 10 ^ precision
+    whole_fits = lt_of_lt_of_le kept.size (pow10_mono checked.fits)
 
     -- the number is within its bounds
     shifted_range : InRange n
     shifted_range =
         record {
-          low = rw shifted.tens (leading_low (precision - 1) t.whole some whole-fits);
-          high = rw shifted.tens (leading_top (precision - 1) t.whole some whole-fits);
+          low = rw shifted.tens (leading_low (precision - 1) t.whole some whole_fits);
+          high = rw shifted.tens (leading_top (precision - 1) t.whole some whole_fits);
           top = shifted.limit;
         }
 
     -- it is not zero
-    shifted-nonzero : n.mantissa ≡ 0 → ⊥
-    shifted-nonzero z = omega (arith, shifted_range.low)
+    shifted_nonzero : n.mantissa ≡ 0 → ⊥
+    shifted_nonzero z = omega (arith, shifted_range.low)
 
     -- the number is within the image's limits, has the stored exponent, and loses its tens
     record Cut : Type 0 where
@@ -614,24 +614,24 @@ module _ (im : Image) (checked : Checked im) (t : Truncated) (kept : Kept im t) 
       pub dropped : dropped_count im n ≡ lead
 
     -- exponential: x and the n digits come back
-    exponential-cut : im.exponential ≡ true → Cut
-    exponential-cut kind =
+    exponential_cut : im.exponential ≡ true → Cut
+    exponential_cut kind =
         let tens : lead ≡ precision - hashes im =
         leading_unique (precision - 1) t.whole (precision - hashes im)
         (filled_low (precision - 1) (hashes im) t.whole (kept.first kind some) checked.fits)
         (filled_high (precision - 1) (hashes im) t.whole kept.size checked.fits) in
         let placed : n.exponent + 1 ≡ t.x + im.integer = omega (arith, shifted.place, checked.fits) in
         let stays : exponent_outside im n ≡ false =
-        outside_above im n shifted-nonzero (omega arith) ∙ le-ltb (2 * exponent_limit) (n.exponent + 1 - im.integer) (omega (arith, kept.top)) in
+        outside_above im n shifted_nonzero (omega arith) ∙ le-ltb (2 * exponent_limit) (n.exponent + 1 - im.integer) (omega (arith, kept.top)) in
         record {
           within = ap (λ (b : Bool). pick b (exponent_outside im n) (exceeds im n)) kind ∙ stays;
-          stored = stored_exponential im n shifted-nonzero kind ∙ omega arith;
-          dropped = omega (arith, kept_exponential im n shifted-nonzero kind);
+          stored = stored_exponential im n shifted_nonzero kind ∙ omega arith;
+          dropped = omega (arith, kept_exponential im n shifted_nonzero kind);
         }
 
     -- fixed point: the number does not exceed the image, and its k comes back
-    fixed-cut : im.exponential ≡ false → Cut
-    fixed-cut kind =
+    fixed_cut : im.exponential ≡ false → Cut
+    fixed_cut kind =
         let x = kept.fixed_x kind in
         let least = leading_least precision (hashes im) t.whole kept.size checked.fits in
         let most = leading_at_most precision t.whole in
@@ -640,19 +640,19 @@ module _ (im : Image) (checked : Checked im) (t : Truncated) (kept : Kept im t) 
         ∙ le-ltb im.integer (n.exponent + 1 - exponent_limit) (omega (arith, shifted.place)) in
         record {
           within = ap (λ (b : Bool). pick b (exponent_outside im n) (exceeds im n)) kind ∙ stays;
-          stored = stored_fixed im n shifted-nonzero kind ∙ sym x;
-          dropped = omega (arith, kept_fixed im n shifted-nonzero kind, shifted.place);
+          stored = stored_fixed im n shifted_nonzero kind ∙ sym x;
+          dropped = omega (arith, kept_fixed im n shifted_nonzero kind, shifted.place);
         }
 
     -- under each image
     cut_of : (b : Bool) → im.exponential ≡ b → Cut
-    cut_of true kind = exponential-cut kind
-    cut_of false kind = fixed-cut kind
+    cut_of true kind = exponential_cut kind
+    cut_of false kind = fixed_cut kind
 
     module _ (facts : Cut) where
       -- the number fits the image
-      shifted-fit : Fit im n
-      shifted-fit =
+      shifted_fit : Fit im n
+      shifted_fit =
           record {
             nonempty = checked.nonempty;
             size = checked.fits;
@@ -661,25 +661,25 @@ module _ (im : Image) (checked : Checked im) (t : Truncated) (kept : Kept im t) 
           }
 
       -- its k is the k that it stands for
-      shifted-whole : whole_of im n ≡ t.whole
-      shifted-whole =
-          kept_whole im n shifted-fit
+      shifted_whole : whole_of im n ≡ t.whole
+      shifted_whole =
+          kept_whole im n shifted_fit
           ∙ ap₂ (λ (m d : ℕ). m / 10 ^ d) shifted.tens facts.dropped
           ∙ mul-div_cancel t.whole (pow10_pos lead)
 
       -- its sign is kept
-      shifted-sign : t.negative ≡ (is_signed im.sign && (n.negative && not (eqb (whole_of im n) 0)))
-      shifted-sign =
+      shifted_sign : t.negative ≡ (is_signed im.sign && (n.negative && not (eqb (whole_of im n) 0)))
+      shifted_sign =
           sign_same t.negative (is_signed im.sign) n.negative (eqb (whole_of im n) 0) (λ m. (kept.minus m).1) shifted.same_sign
-          (ne_eqb (whole_of im n) 0 (λ e. omega (arith, shifted-whole)))
+          (ne_eqb (whole_of im n) 0 (λ e. omega (arith, shifted_whole)))
 
       -- it is packed to what it stands for
-      shifted-packing : Packing im n t
+      shifted_packing : Packing im n t
       unfolding truncated_to
-      shifted-packing =
+      shifted_packing =
           record {
-            fit = shifted-fit;
-            cut = truncated_path shifted-sign (sym shifted-whole) (sym facts.stored);
+            fit = shifted_fit;
+            cut = truncated_path shifted_sign (sym shifted_whole) (sym facts.stored);
             room = λ u. omega (arith, facts.stored, kept.unsigned_x u);
           }
 
@@ -696,7 +696,7 @@ module _ (im : Image) (checked : Checked im) (t : Truncated) (kept : Kept im t) 
       let some : 0 < t.whole = omega arith in
       let fits : t.whole < 10 ^ precision = lt_of_lt_of_le kept.size (pow10_mono checked.fits) in
       let shifted = scaled_parts column t.negative t.whole t.x (exponent_limit + im.fraction) some fits h in
-      shifted-packing n some shifted (cut_of n some shifted im.exponential refl))
+      shifted_packing n some shifted (cut_of n some shifted im.exponential refl))
       (zero_or_not t.whole)
 
 -- Which bytes are read.
@@ -844,43 +844,43 @@ module _ (im : Image) (sign whole size : ℕ) (rules : Rules im sign whole size)
 
   module _ (unsigned : is_signed im.sign ≡ false → sign ≡ 0) (fixed : im.exponential ≡ false → size ≡ 0) (wide : whole < 10 ^ hashes im) where
     -- x is 0 where |x| is
-    said-none : size ≡ 0 → (said_by sign whole size).x ≡ exponent_limit
-    said-none z = ⊎_elim (λ l. absurd (omega (arith, l.1))) (λ r. r.1 ∙ omega arith) said_x
+    said_none : size ≡ 0 → (said_by sign whole size).x ≡ exponent_limit
+    said_none z = ⊎_elim (λ l. absurd (omega (arith, l.1))) (λ r. r.1 ∙ omega arith) said_x
 
     -- k has at most n digits
-    said-wide : (said_by sign whole size).whole < 10 ^ hashes im
+    said_wide : (said_by sign whole size).whole < 10 ^ hashes im
     unfolding said_by
-    said-wide = wide
+    said_wide = wide
 
     -- a k of 0
-    said-whole : (said_by sign whole size).whole ≡ 0 → whole ≡ 0
+    said_whole : (said_by sign whole size).whole ≡ 0 → whole ≡ 0
     unfolding said_by
-    said-whole z = z
+    said_whole z = z
 
     -- exponential: a k above 0 does not begin with 0
-    said-first : im.exponential ≡ true → 0 < (said_by sign whole size).whole → 10 ^ hashes im ≤ (said_by sign whole size).whole * 10
+    said_first : im.exponential ≡ true → 0 < (said_by sign whole size).whole → 10 ^ hashes im ≤ (said_by sign whole size).whole * 10
     unfolding said_by
-    said-first = rules.first
+    said_first = rules.first
 
     -- a minus stands only on a k above 0 and under an image with a sign
-    said-minus : (said_by sign whole size).negative ≡ true → (0 < (said_by sign whole size).whole) × (is_signed im.sign ≡ true)
+    said_minus : (said_by sign whole size).negative ≡ true → (0 < (said_by sign whole size).whole) × (is_signed im.sign ≡ true)
     unfolding said_by
-    said-minus m = (rules.minus m, go (is_signed im.sign) refl)
+    said_minus m = (rules.minus m, go (is_signed im.sign) refl)
       where
         go : (b : Bool) → is_signed im.sign ≡ b → is_signed im.sign ≡ true
         go true e = e
         go false e = two_values m (ap minus_bit (unsigned e))
 
     -- what is said keeps to the bounds
-    said-kept : Kept im (said_by sign whole size)
-    said-kept =
+    said_kept : Kept im (said_by sign whole size)
+    said_kept =
         record {
-          size = said-wide;
+          size = said_wide;
           top = ⊎_elim (λ l. let e = l.2 in omega arith) (λ r. let e = r.1 in omega arith) said_x;
-          minus = said-minus;
-          zero_x = λ z. said-none (rules.none_size (said-whole z));
-          fixed_x = λ f. said-none (fixed f);
-          first = said-first;
+          minus = said_minus;
+          zero_x = λ z. said_none (rules.none_size (said_whole z));
+          fixed_x = λ f. said_none (fixed f);
+          first = said_first;
           unsigned_x =
               λ u.
               let z = unsigned u in
@@ -990,55 +990,55 @@ module _ (im : Image) (hs : List ℕ) (filled : length hs ≡ half_count im + pa
     said = said_by sign whole size
 
     -- no rule is broken
-    in-rules : Rules im sign whole size
-    in-rules = rules_view im sign whole size pass.breaks
+    in_rules : Rules im sign whole size
+    in_rules = rules_view im sign whole size pass.breaks
 
     -- |x| is within its limit
-    in-few : size ≤ exponent_limit
-    in-few = exponent_few im.exponential (exponent_part im hs) exponent_part_length (pass_digits (exponent_part im hs) pass.in_exponent)
+    in_few : size ≤ exponent_limit
+    in_few = exponent_few im.exponential (exponent_part im hs) exponent_part_length (pass_digits (exponent_part im hs) pass.in_exponent)
 
     -- the truncation that is read keeps to the bounds
     read_kept : Kept im said
     read_kept =
-        said-kept im sign whole size in-rules in-few
+        said_kept im sign whole size in_rules in_few
         (sign_part_none im.sign hs)
         (exponent_none im.exponential (exponent_part im hs) exponent_part_length (pass_digits (exponent_part im hs) pass.in_exponent))
         (subst (λ (k : ℕ). whole < 10 ^ k) digit_part_length (value_below (digit_part im hs) (pass_digits (digit_part im hs) pass.in_digits)))
 
     -- its k is the k that was read
-    said-is-whole : said.whole ≡ whole
+    said_is_whole : said.whole ≡ whole
     unfolding said_by
-    said-is-whole = refl
+    said_is_whole = refl
 
     -- its digits are those that were read
-    places-again : digits_of (hashes im) said.whole ≡ digit_part im hs
-    places-again =
-        ap₂ (λ (c k : ℕ). digits_of c k) (sym digit_part_length) said-is-whole
+    places_again : digits_of (hashes im) said.whole ≡ digit_part im hs
+    places_again =
+        ap₂ (λ (c k : ℕ). digits_of c k) (sym digit_part_length) said_is_whole
         ∙ digits_of_value (digit_part im hs) (pass_digits (digit_part im hs) pass.in_digits)
 
     -- its sign half is the one that was read
-    signs-again : Halves hs → sign_halves im.sign said ≡ take (sign_count im.sign) hs
-    signs-again half =
+    signs_again : Halves hs → sign_halves im.sign said ≡ take (sign_count im.sign) hs
+    signs_again half =
         sign_halves_again im.sign said hs (omega arith)
-        (λ s. said_sign im sign whole size in-rules in-few (sign_part_low im.sign hs half))
+        (λ s. said_sign im sign whole size in_rules in_few (sign_part_low im.sign hs half))
 
     -- its digits of |x| are those that were read
-    exponents-again : exponent_halves im.exponential said ≡ exponent_part im hs
-    exponents-again =
+    exponents_again : exponent_halves im.exponential said ≡ exponent_part im hs
+    exponents_again =
         exponent_halves_again im.exponential said (exponent_part im hs) exponent_part_length
         (pass_digits (exponent_part im hs) pass.in_exponent)
-        (said_size im sign whole size in-rules in-few)
+        (said_size im sign whole size in_rules in_few)
 
     -- its padding is the one that was read
-    pads-again : zeros (pad_count im) ≡ pad_part im hs
-    pads-again = ap zeros (sym pad_part_length) ∙ pass_zeros (pad_part im hs) pass.in_pad
+    pads_again : zeros (pad_count im) ≡ pad_part im hs
+    pads_again = ap zeros (sym pad_part_length) ∙ pass_zeros (pad_part im hs) pass.in_pad
 
     -- its halves are those that were read
-    halves-again : Halves hs → column_halves im said ≡ hs
+    halves_again : Halves hs → column_halves im said ≡ hs
     unfolding column_halves
-    halves-again half =
-        ap₂ (λ (s d : List ℕ). s ++ (d ++ (exponent_halves im.exponential said ++ zeros (pad_count im)))) (signs-again half) places-again
-        ∙ ap₂ (λ (e z : List ℕ). take (sign_count im.sign) hs ++ (digit_part im hs ++ (e ++ z))) exponents-again pads-again
+    halves_again half =
+        ap₂ (λ (s d : List ℕ). s ++ (d ++ (exponent_halves im.exponential said ++ zeros (pad_count im)))) (signs_again half) places_again
+        ∙ ap₂ (λ (e z : List ℕ). take (sign_count im.sign) hs ++ (digit_part im hs ++ (e ++ z))) exponents_again pads_again
         ∙ halves_whole
 
 module _ (im : Image) (checked : Checked im) (place : ℕ) (bytes : List ℕ) (n : Number) where
@@ -1049,24 +1049,24 @@ module _ (im : Image) (checked : Checked im) (place : ℕ) (bytes : List ℕ) (n
 
   module _ (sized : length bytes ≡ column_size im) (read : unpack_column place im bytes ≡ done n) where
     -- the halves of bytes of a column's size
-    halves-filled : length (halves_of bytes) ≡ half_count im + pad_count im
-    halves-filled = halves_length bytes ∙ omega (arith, column_halves_lem im)
+    halves_filled : length (halves_of bytes) ≡ half_count im + pad_count im
+    halves_filled = halves_length bytes ∙ omega (arith, column_halves_lem im)
 
     -- what they pass
-    halves-pass : HalvesPass place im (halves_of bytes) n
+    halves_pass : HalvesPass place im (halves_of bytes) n
     unfolding unpack_column
-    halves-pass = halves_view place im (halves_of bytes) read
+    halves_pass = halves_view place im (halves_of bytes) read
 
     -- the number read is packed to what they say
-    pub column-packs : Packing im n said_in
-    column-packs =
-        kept_packing im checked said_in (read_kept im (halves_of bytes) halves-filled place n halves-pass) place halves-pass.stands
+    pub column_packs : Packing im n said_in
+    column_packs =
+        kept_packing im checked said_in (read_kept im (halves_of bytes) halves_filled place n halves_pass) place halves_pass.stands
 
     -- and where they are bytes, to them
     column_same : Bytes bytes → column_bytes im said_in ≡ bytes
     unfolding column_bytes
     column_same known =
-        ap pack_halves (halves-again im (halves_of bytes) halves-filled place n halves-pass (bytes_halves known)) ∙ packed_of_halves bytes
+        ap pack_halves (halves_again im (halves_of bytes) halves_filled place n halves_pass (bytes_halves known)) ∙ packed_of_halves bytes
 
 -- Published: where bytes of a column's size are read, the number read packs to these bytes, in every column.
 pub column_accepts :
@@ -1079,7 +1079,7 @@ pub column_accepts :
     → (t : Truncated) × ((column : ℕ) → packed_truncation column im n ≡ done t) × (column_bytes im t ≡ bytes)
 column_accepts im checked place bytes {n} known sized h = (
   said_in im checked place bytes n,
-  λ column. packed_back column im n (column-packs im checked place bytes n sized h),
+  λ column. packed_back column im n (column_packs im checked place bytes n sized h),
   column_same im checked place bytes n sized h known,
 )
 

@@ -236,20 +236,20 @@ module _ (bytes : List ℕ) where
 
   module _ (r : Contents) (h : r ≡ contents_of (read_contents bytes)) where
     -- so the code's answer is the same alone where it is refused
-    pub alone-stops : (refusal : Refusal) → r.answer ≡ checks.Refused refusal → r ≡ contents_of (read_alone bytes)
-    alone-stops refusal e =
+    pub alone_stops : (refusal : Refusal) → r.answer ≡ checks.Refused refusal → r ≡ contents_of (read_alone bytes)
+    alone_stops refusal e =
         let q = told_refused (read_contents bytes) r refusal h e in
         h ∙ ap contents_of (q ∙ sym (alone_first q))
 
     -- and where it fills the bytes
-    pub alone-whole : r.answer ≡ checks.Fine → r.size ≡ length bytes → r ≡ contents_of (read_alone bytes)
-    alone-whole e l =
+    pub alone_whole : r.answer ≡ checks.Fine → r.size ≡ length bytes → r ≡ contents_of (read_alone bytes)
+    alone_whole e l =
         let t = told_read (read_contents bytes) r h e in
         h ∙ ap contents_of (t.reads ∙ sym (alone_same t.reads (sym t.size ∙ l)))
 
     -- else it is refused
-    pub alone-long : r.answer ≡ checks.Fine → (r.size ≡ length bytes → ⊥) → read_alone bytes ≡ refused 11 0
-    alone-long e l = let t = told_read (read_contents bytes) r h e in alone_more t.reads (λ z. l (t.size ∙ z))
+    pub alone_long : r.answer ≡ checks.Fine → (r.size ≡ length bytes → ⊥) → read_alone bytes ≡ refused 11 0
+    alone_long e l = let t = told_read (read_contents bytes) r h e in alone_more t.reads (λ z. l (t.size ∙ z))
 
 -- a column's halves fill its bytes
 pub column_halves_lem : (im : Image) → column_size im + column_size im ≡ half_count im + pad_count im

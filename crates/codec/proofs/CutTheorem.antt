@@ -18,7 +18,7 @@ use Rattle.codec.specs.Text.{LongestForm, reading_in, legal_length}
 use Rattle.codec.specs.Walking.{Walk, stop_before, stopped, numbers_in, walking, walk_meaning, Foremost, Cut}
 use Rattle.codec.proofs.LongestTheorem.{longest, longest_unique, empty_length}
 use Rattle.codec.proofs.ReadingTheorem.{beginning_size, beginning_value, some_beginning}
-use Rattle.codec.proofs.WalkLaws.{stop_end, stop-none, stop-many, behind, numbers_stop, numbers_full, numbers-number, numbers-refused}
+use Rattle.codec.proofs.WalkLaws.{stop_end, stop_none, stop_many, behind, numbers_stop, numbers_full, numbers_number, numbers_refused}
 
 -- The longest beginning.
 
@@ -59,7 +59,7 @@ module _ (text : List ℕ) where
       (λ (end : length text ≤ place).
       subst (λ (a : WalkAnswer). CutBy index place (stopped a place)) (stop_end text place end) (stop_cut index place gives.End (Cut.ends end)))
       (λ (inside : place < length text).
-      subst (λ (a : WalkAnswer). CutBy index place (stopped a place)) (stop-none text place inside none)
+      subst (λ (a : WalkAnswer). CutBy index place (stopped a place)) (stop_none text place inside none)
       (stop_cut index place gives.NoNumber
       (Cut.none inside (subst (λ (n : ℕ). LongestForm (drop place text) n) none (longest (drop place text))))))
       (le_or_lt (length text) place)
@@ -71,7 +71,7 @@ module _ (text : List ℕ) where
   -- one more begins there, and there is no room
   full_cut : (index place : ℕ) → max_columns ≤ index → (legal_length (drop place text) ≡ 0 → ⊥) → CutBy index place (stopped (stop_before (drop place text)) place)
   full_cut index place full some =
-      subst (λ (a : WalkAnswer). CutBy index place (stopped a place)) (stop-many text place (some_inside place some) some)
+      subst (λ (a : WalkAnswer). CutBy index place (stopped a place)) (stop_many text place (some_inside place some) some)
       (stop_cut index place gives.TooMany (Cut.full full (foremost (drop place text) some refl)))
 
   -- a number before the others
@@ -95,11 +95,11 @@ module _ (text : List ℕ) where
       go (done n) e =
           let next = place + legal_length bytes in
           let rest : drop next text ≡ drop (legal_length bytes) bytes = sym (drop-drop (legal_length bytes) place text) in
-          subst (λ (w : Walk). CutBy index place w) (sym (numbers-number index place bytes left some e))
+          subst (λ (w : Walk). CutBy index place w) (sym (numbers_number index place bytes left some e))
           (behind_cut (numbers_in left (suc index) next (drop (legal_length bytes) bytes)) room (foremost bytes some e)
           (subst (λ (l : List ℕ). CutBy (suc index) next (numbers_in left (suc index) next l)) rest (others next)))
       go (refused number other) e =
-          subst (λ (w : Walk). CutBy index place w) (sym (numbers-refused index place bytes left some e))
+          subst (λ (w : Walk). CutBy index place w) (sym (numbers_refused index place bytes left some e))
           (stop_cut index place (gives.Refused (record { number = number; place = index })) (Cut.stops room (foremost bytes some e)))
 
   -- each walk is a cut
@@ -158,26 +158,26 @@ module _ (text : List ℕ) where
       stopped_gives gives.End place (numbers_stop index place (drop place text) left none ∙ ap (λ (a : WalkAnswer). stopped a place) (sym (stop_end text place end)))
   cut_numbers (Cut.none {index} {place} inside zero-long) left room =
       let none = longest_unique (longest (drop place text)) zero-long in
-      stopped_gives gives.NoNumber place (numbers_stop index place (drop place text) left none ∙ ap (λ (a : WalkAnswer). stopped a place) (sym (stop-none text place inside none)))
+      stopped_gives gives.NoNumber place (numbers_stop index place (drop place text) left none ∙ ap (λ (a : WalkAnswer). stopped a place) (sym (stop_none text place inside none)))
   cut_numbers (Cut.full {index} {place} full f) left room =
       let some = foremost_some f in
       let no_room : left ≡ 0 = omega arith in
       stopped_gives gives.TooMany place
       (ap (λ (n : ℕ). numbers_in n index place (drop place text)) no_room
       ∙ numbers_full index place (drop place text)
-      ∙ ap (λ (a : WalkAnswer). stopped a place) (sym (stop-many text place (some_inside text place some) some)))
+      ∙ ap (λ (a : WalkAnswer). stopped a place) (sym (stop_many text place (some_inside text place some) some)))
   cut_numbers (Cut.stops {index} {place} {number = number} more f) left room =
       let one_left : left ≡ suc (left - 1) = omega arith in
       stopped_gives (gives.Refused (record { number = number; place = index })) place
       (ap (λ (n : ℕ). numbers_in n index place (drop place text)) one_left
-      ∙ numbers-refused index place (drop place text) (left - 1) (foremost_some f) (foremost_number f))
+      ∙ numbers_refused index place (drop place text) (left - 1) (foremost_some f) (foremost_number f))
   cut_numbers (Cut.more {index} {place} {size} {n = n} more f others) left room =
       let bytes = drop place text in
       let one_left : left ≡ suc (left - 1) = omega arith in
       let rest = cut_numbers others (left - 1) (omega arith) in
       behind_gives
       (ap (λ (n : ℕ). numbers_in n index place bytes) one_left
-      ∙ numbers-number index place bytes (left - 1) (foremost_some f) (foremost_number f)
+      ∙ numbers_number index place bytes (left - 1) (foremost_some f) (foremost_number f)
       ∙ ap (λ (k : ℕ). behind (n ∷ []) (numbers_in (left - 1) (suc index) (place + k) (drop k bytes))) (foremost_size f)
       ∙ ap (λ (l : List ℕ). behind (n ∷ []) (numbers_in (left - 1) (suc index) (place + size) l)) (drop-drop size place text))
       rest

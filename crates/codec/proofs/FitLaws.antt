@@ -19,7 +19,7 @@ use Rattle.decimal.proofs.DigitLaws.{value_of_digits}
 use Rattle.decimal.proofs.PackedLaws.{halves_of_digits}
 use Rattle.decimal.proofs.NumberLaws.{normal_high}
 use Rattle.decimal.proofs.TruncationLaws.{fit_truncation, fit_exponential, stored_zero, stored_exponential, stored_fixed}
-use Rattle.decimal.proofs.KeptLaws.{kept-size, kept_whole}
+use Rattle.decimal.proofs.KeptLaws.{kept_size, kept_whole}
 use Rattle.codec.specs.Packing.{Held, held_by}
 
 -- m without all but its first c digits has at most h digits
@@ -37,7 +37,7 @@ module _ (im : Image) (n : Number) (fit : Fit im n) where
   pub whole_size : whole_of im n < 10 ^ hashes im
   whole_size =
       rw (kept_whole im n fit)
-      (cut_below n.mantissa precision (kept_count im n) (hashes im) (normal_high n fit.number_checked) (kept-size im n fit) fit.size)
+      (cut_below n.mantissa precision (kept_count im n) (hashes im) (normal_high n fit.number_checked) (kept_size im n fit) fit.size)
 
   -- x is at most its upper limit
   pub stored_top : stored_exponent im n ≤ 2 * exponent_limit
@@ -59,14 +59,14 @@ module _ (im : Image) (n : Number) (fit : Fit im n) where
 
   module _ (r : Truncation) (made : r ≡ truncation_of (truncation 0 im n)) where
     -- the code's truncation of a number that fits
-    truncated-made : r ≡ truncation_of (done (truncated_to im n))
-    truncated-made = made ∙ ap truncation_of (fit_truncation 0 im n fit)
+    truncated_made : r ≡ truncation_of (done (truncated_to im n))
+    truncated_made = made ∙ ap truncation_of (fit_truncation 0 im n fit)
 
     -- a column can be made of it
-    pub truncation-held : Held im r
+    pub truncation_held : Held im r
     unfolding truncation_of truncated_to
-    truncation-held =
-        subst⁻¹ (λ (k : Truncation). Held im k) truncated-made
+    truncation_held =
+        subst⁻¹ (λ (k : Truncation). Held im k) truncated_made
         (record {
           size = fit.size;
           digits = sym (ap (λ (k : ℕ). packed_of (digits_of precision k)) value_held);
@@ -75,10 +75,10 @@ module _ (im : Image) (n : Number) (fit : Fit im n) where
         })
 
     -- and it is the truncation
-    pub truncation-held-by : held_by r ≡ truncated_to im n
+    pub truncation_held_by : held_by r ≡ truncated_to im n
     unfolding truncation_of
-    truncation-held-by =
-        ap held_by truncated-made
+    truncation_held_by =
+        ap held_by truncated_made
         ∙ (λ i.
         record {
           negative = (truncated_to im n).negative;

@@ -17,7 +17,7 @@ use Rattle.decimal.specs.Number.{exponent_limit, normal}
 use Rattle.decimal.specs.Image.{sign_bytes, times}
 use Rattle.decimal.proofs.BoolLaws.{zero_or_not}
 use Rattle.decimal.proofs.DigitLaws.{digits_append}
-use Rattle.decimal.proofs.MagnitudeLaws.{scaled-normal}
+use Rattle.decimal.proofs.MagnitudeLaws.{scaled_normal}
 use Rattle.decimal.proofs.ImageLaws.{times_length}
 use Rattle.codec.specs.Alpha.{blank_byte, digit_bytes}
 use Rattle.codec.specs.Text.{ExponentPart, no_exponent, exponent, NumeralParts, TextParts, Legal, HasForm}
@@ -304,6 +304,6 @@ converts_normal bytes {n} h =
     let z : ◌≡◌ {A = ℕ} 0 1 = cc in
     absurd (omega arith))
     (λ (some : legal_length bytes ≡ 0 → ⊥).
-    scaled-normal 0 (is_minus t.sign) (value_of (all_digits_of u)) (power_value u.power) (exponent_limit + length (fraction_digits u.fraction))
+    scaled_normal 0 (is_minus t.sign) (value_of (all_digits_of u)) (power_value u.power) (exponent_limit + length (fraction_digits u.fraction))
     (sym (reading_number bytes some) ∙ read))
     (zero_or_not (legal_length bytes))

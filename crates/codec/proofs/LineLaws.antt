@@ -18,9 +18,9 @@ use Rattle.codec.specs.Columns.{Checked, AllChecked, sign_count, exponent_count,
 use Rattle.codec.specs.Unpacking.{unpack_columns, unpack_body}
 use Rattle.codec.specs.Alpha.{blank_byte, alpha_text, alpha_under, alpha_of, alpha_texts, parted, fraction_length, exponent_length, tail_length, text_length, line_length}
 use Rattle.decimal.proofs.AnswerLaws.{then_done}
-use Rattle.codec.proofs.ColumnTheorem.{column-packs}
+use Rattle.codec.proofs.ColumnTheorem.{column_packs}
 use Rattle.codec.proofs.ReadBackTheorem.{body_view, unpack_view}
-use Rattle.codec.proofs.AlphaLaws.{under_done, alpha_under_length, alpha-read, fraction_few}
+use Rattle.codec.proofs.AlphaLaws.{under_done, alpha_under_length, alpha_read, fraction_few}
 use Rattle.codec.proofs.ContentsLaws.{sign_few}
 
 -- One text.
@@ -28,7 +28,7 @@ use Rattle.codec.proofs.ContentsLaws.{sign_few}
 -- the text under an image's bytes is that under the image
 pub alpha_under_lem : {im : Image} → Checked im → (n : Number) → alpha_of (image_bytes im) n ≡ alpha_under im n
 alpha_under_lem {im} checked n =
-    alpha-read (image_bytes im) n im (reads_image 0 {im = im} (record { rendered = refl; nonempty = checked.nonempty }) checked.fits)
+    alpha_read (image_bytes im) n im (reads_image 0 {im = im} (record { rendered = refl; nonempty = checked.nonempty }) checked.fits)
 
 -- The texts of a list.
 
@@ -156,7 +156,7 @@ columns_texts column (AllChecked.more {im} {ims} checked others) body {ns} sized
     let step = unpack_view column im ims body h in
     let front : length (take k body) ≡ k = length-take-le k body (omega arith) in
     let left : length (drop k body) ≡ body_size ims = length-drop k body ∙ omega arith in
-    let packing = column-packs im checked column (take k body) step.number front step.first in
+    let packing = column_packs im checked column (take k body) step.number front step.first in
     let text = under_done im step.number (fit_truncation 0 im step.number packing.fit) in
     let rest = columns_texts (suc column) others (drop k body) left step.others in (
       alpha_text im (truncated_to im step.number) ∷ rest.0,

@@ -21,7 +21,7 @@ use Rattle.decimal.specs.Truncation.{is_signed, whole_of, fixed_whole, leading_w
 use Rattle.decimal.proofs.BoolLaws.{zero_or_not}
 use Rattle.decimal.proofs.PowerLaws.{pow10_pos}
 use Rattle.decimal.proofs.DigitLaws.{le_or_lt, digits_length, order_of_digits}
-use Rattle.decimal.proofs.MagnitudeLaws.{scaled-magnitude}
+use Rattle.decimal.proofs.MagnitudeLaws.{scaled_magnitude}
 use Rattle.decimal.proofs.TruncationLaws.{fit_truncation, truncation_fit, truncation_done, stored_zero, stored_fixed}
 use Rattle.decimal.proofs.KeptLaws.{truncates_to_itself}
 use Rattle.decimal.proofs.AnswerLaws.{done_same, then_done}
@@ -147,31 +147,31 @@ module _ (im : Image) (kind : UnsignedFixed im) where
 
   module _ (n : Number) (fit : Fit im n) where
     -- fixed point: the digits are the whole part
-    fixed-whole : whole_of im n ≡ fixed_whole im n
+    fixed_whole_lem : whole_of im n ≡ fixed_whole im n
     unfolding whole_of
-    fixed-whole = ap (λ (b : Bool). pick b (leading_whole im n) (fixed_whole im n)) kind.fixed
+    fixed_whole_lem = ap (λ (b : Bool). pick b (leading_whole im n) (fixed_whole im n)) kind.fixed
 
     -- the digits fit the image
-    whole-fits : (truncated_to im n).whole < 10 ^ hashes im
+    whole_fits : (truncated_to im n).whole < 10 ^ hashes im
     unfolding truncated_to exceeds
-    whole-fits =
+    whole_fits =
         let within : exceeds im n ≡ false = subst (λ (b : Bool). pick b (exponent_outside im n) (exceeds im n) ≡ false) kind.fixed fit.within in
-        subst⁻¹ (λ (k : ℕ). k < 10 ^ hashes im) fixed-whole (leb-false (10 ^ hashes im) (fixed_whole im n) within)
+        subst⁻¹ (λ (k : ℕ). k < 10 ^ hashes im) fixed_whole_lem (leb-false (10 ^ hashes im) (fixed_whole im n) within)
 
     -- fixed point stores no exponent
     stored : stored_exponent im n ≡ exponent_limit
     stored = ⊎_elim (λ z. stored_zero im n z) (λ nz. stored_fixed im n nz kind.fixed) (zero_or_not n.mantissa)
 
     -- the truncated magnitude is the digits' whole number by a constant of the image
-    whole-means :
+    whole_means :
         magnitude_in (truncated_number 0 im n) * 10 ^ (exponent_limit + im.fraction) ≡ (truncated_to im n).whole * 10 ^ exponent_limit * unit
     unfolding truncated_number number_of ◌then◌ magnitude_in truncated_to
-    whole-means =
+    whole_means =
         let itself = truncates_to_itself 0 im n (fit_truncation 0 im n fit) in
         let given : truncated_number 0 im n ≡ done itself.number =
         ap (λ (a : Answer Truncated). a then number_of 0 im) (fit_truncation 0 im n fit) ∙ itself.stands_for in
         ap (λ (a : Answer Number). magnitude_in a * 10 ^ (exponent_limit + im.fraction)) given
-        ∙ scaled-magnitude 0 (truncated_to im n).negative (whole_of im n) (stored_exponent im n) (exponent_limit + im.fraction) itself.stands_for
+        ∙ scaled_magnitude 0 (truncated_to im n).negative (whole_of im n) (stored_exponent im n) (exponent_limit + im.fraction) itself.stands_for
         ∙ ap (λ (x : ℕ). whole_of im n * 10 ^ x * unit) stored
 
   -- a number that packs
@@ -183,7 +183,7 @@ module _ (im : Image) (kind : UnsignedFixed im) where
       let same : u ≡ t = pick_done (not (is_signed im.sign) && ltb u.x exponent_limit) 5 place u both.second in
       let fit = truncation_fit place im n both.first in
       subst (λ (v : Truncated). Column im n v) (sym (truncation_done place im n both.first) ∙ same)
-      (record { fits = whole-fits n fit; means = whole-means n fit })
+      (record { fits = whole_fits n fit; means = whole_means n fit })
 
 -- Whole numbers and magnitudes, which are a constant apart.
 

@@ -13,7 +13,7 @@ use Rattle.decimal.specs.Answer.{Answer, done, refused, pick}
 use Rattle.decimal.specs.Number.{exponent_limit}
 use Rattle.decimal.specs.Image.{hashes}
 use Rattle.decimal.specs.Truncation.{Truncated, truncated_to, truncation, packed_truncation, exceeds, exponent_outside, Fit, is_signed, stored_exponent}
-use Rattle.decimal.proofs.TruncationLaws.{truncation_fit, packed_refused, packed-signed, packed-negative, packed-unsigned}
+use Rattle.decimal.proofs.TruncationLaws.{truncation_fit, packed_refused, packed_signed, packed_negative, packed_unsigned}
 use Rattle.decimal.proofs.DigitLaws.{le_or_lt}
 use Rattle.codec.specs.Packing.AllPack.{none, one}
 use Rattle.codec.specs.Answers.{within}
@@ -36,10 +36,10 @@ module _ (place : ℕ) (im : Image) (n : Number) where
       fit = packed_fit h
 
       go : (b : Bool) → is_signed im.sign ≡ b → packed_truncation column im n ≡ done (truncated_to im n)
-      go true e = packed-signed column im n fit e
+      go true e = packed_signed column im n fit e
       go false e =
-          ⊎_elim (λ le. packed-unsigned column im n fit e le)
-          (λ lt. let r = packed-negative place im n fit e lt in let z : ◌≡◌ {A = ℕ} 0 1 = cc in absurd (omega arith))
+          ⊎_elim (λ le. packed_unsigned column im n fit e le)
+          (λ lt. let r = packed_negative place im n fit e lt in let z : ◌≡◌ {A = ℕ} 0 1 = cc in absurd (omega arith))
           (le_or_lt exponent_limit (stored_exponent im n))
 
   -- so it packs
@@ -78,8 +78,8 @@ conditions_pack {im} {n} some p =
         }
 
     go : (column : ℕ) (b : Bool) → is_signed im.sign ≡ b → packed_truncation column im n ≡ done (truncated_to im n)
-    go column true e = packed-signed column im n fit e
-    go column false e = packed-unsigned column im n fit e (stored im.exponential refl)
+    go column true e = packed_signed column im n fit e
+    go column false e = packed_unsigned column im n fit e (stored im.exponential refl)
       where
         stored : (b : Bool) → im.exponential ≡ b → exponent_limit ≤ stored_exponent im n
         stored true kind = p.unsigned kind e
@@ -101,7 +101,7 @@ pack_conditions {im} {n} p =
 
     never : is_signed im.sign ≡ false → stored_exponent im n < exponent_limit → exponent_limit ≤ stored_exponent im n
     never e lt =
-        let r = packed-negative 0 im n fit e lt in
+        let r = packed_negative 0 im n fit e lt in
         let d = p.truncated 0 in
         let z : ◌≡◌ {A = ℕ} 0 1 = cc in
         absurd (omega arith)

@@ -20,7 +20,7 @@ use Rattle.codec.proofs.ContentsTheorem.{alone_exactly, contents_unique}
 use Rattle.codec.proofs.PackLaws.{conditions_pack, pack_conditions}
 use Rattle.codec.proofs.BodyLaws.{packs_exactly}
 use Rattle.codec.proofs.ReadBackTheorem.{contents_accepts}
-use Rattle.codec.proofs.RoomTheorem.{within-done, longer-refused, none-refused, body_not_six}
+use Rattle.codec.proofs.RoomTheorem.{within_done, longer_refused, none_refused, body_not_six}
 
 -- the conditions hold where each number is truncated to be packed
 all_pack : {ims : List Image} {ns : List Number} → AllImages ims → PacksEach ims ns → AllPack ims ns
@@ -86,8 +86,8 @@ pub packs_six : (contents : List ℕ) (ns : List Number) (room : ℕ) → Packs 
 packs_six contents ns room packs {number} {place} h =
     let packed = (packs_contents contents ns).0 packs in
     ⊎_elim
-    (λ fits. let d = within-done contents ns room packed.1 fits in let z : ◌≡◌ {A = ℕ} 0 1 = cc in absurd (omega arith))
-    (λ long. let r = longer-refused contents ns room packed.1 long in cc)
+    (λ fits. let d = within_done contents ns room packed.1 fits in let z : ◌≡◌ {A = ℕ} 0 1 = cc in absurd (omega arith))
+    (λ long. let r = longer_refused contents ns room packed.1 long in cc)
     (le_or_lt (length packed.0) room)
 
 -- and one that does not pack is refused otherwise than with 6
@@ -96,4 +96,4 @@ not_packs contents ns room none = go (body_of contents ns) refl
   where
     go : (a : Answer (List ℕ)) → body_of contents ns ≡ a → (number : ℕ) × (place : ℕ) × (packing contents ns room ≡ refused number place) × (number ≡ 6 → ⊥)
     go (done body) e = absurd (none ((packs_contents contents ns).1 (body, e)))
-    go (refused number place) e = (number, place, none-refused contents ns room e, body_not_six contents ns e)
+    go (refused number place) e = (number, place, none_refused contents ns room e, body_not_six contents ns e)

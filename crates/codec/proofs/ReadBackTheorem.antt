@@ -18,7 +18,7 @@ use Rattle.decimal.specs.Digits.{value_of}
 use Rattle.decimal.specs.Number.{exponent_limit, zero_number, normal}
 use Rattle.decimal.specs.Truncation.{Truncated, packed_truncation, number_of}
 use Rattle.decimal.proofs.NumberLaws.{zero_normal}
-use Rattle.decimal.proofs.MagnitudeLaws.{scaled-normal}
+use Rattle.decimal.proofs.MagnitudeLaws.{scaled_normal}
 use Rattle.decimal.proofs.AnswerLaws.{never_done, done_same, then_done, then_both}
 use Rattle.codec.specs.Lists.{any_of}
 use Rattle.codec.specs.Halves.{halves_of}
@@ -357,7 +357,7 @@ column_normal column im bytes h =
     let parts = unless_view (any_of (not (all_digits (digit_part im hs)) ∷ (not (all_digits (exponent_part im hs)) ∷ (not (all_zero (pad_part im hs)) ∷ []))))
     (parts_number column im sign whole size) 7 column h in
     let half = unless_view (breaks_rules im sign whole size) (as_half column (number_of column im t)) 7 column parts in
-    scaled-normal column t.negative t.whole t.x (exponent_limit + im.fraction) (half_given column (number_of column im t) half)
+    scaled_normal column t.negative t.whole t.x (exponent_limit + im.fraction) (half_given column (number_of column im t) half)
 
 -- and all columns
 columns_normal :

@@ -131,12 +131,12 @@ module _ (bytes : List ℕ) where
   read_refused : {number place : ℕ} → read_text bytes ≡ refused number place → (reading_in bytes).number ≡ refused number place
   read_refused {number} {place} h = go (reading_in bytes).number refl
     where
-      same-refused : {a b : ℕ} → ◌≡◌ {A = Answer TextNumber} (refused a b) (refused number place) → ◌≡◌ {A = Answer Number} (refused a b) (refused number place)
-      same-refused {a} {b} e = let first : a ≡ number = cc in let second : b ≡ place = cc in λ i. refused (first i) (second i)
+      same_refused : {a b : ℕ} → ◌≡◌ {A = Answer TextNumber} (refused a b) (refused number place) → ◌≡◌ {A = Answer Number} (refused a b) (refused number place)
+      same_refused {a} {b} e = let first : a ≡ number = cc in let second : b ≡ place = cc in λ i. refused (first i) (second i)
 
       go : (a : Answer Number) → (reading_in bytes).number ≡ a → (reading_in bytes).number ≡ refused number place
       go (done n) e = never h (reads_number bytes {used = legal_length bytes} refl e)
-      go (refused a b) e = e ∙ same-refused (sym (reads_refused bytes e) ∙ h)
+      go (refused a b) e = e ∙ same_refused (sym (reads_refused bytes e) ∙ h)
 
   -- a number that a whole text is converted to is read, and uses all bytes
   converted_read : {n : Number} → convert_text bytes ≡ done n → read_text bytes ≡ done (record { number = n; used = length bytes })

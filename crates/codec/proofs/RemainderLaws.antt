@@ -14,7 +14,7 @@ use Rattle.decimal.specs.Answer.{Answer, done, refused, ◌then◌, given}
 use Rattle.decimal.specs.Truncation.{truncated_to, Fit}
 use Rattle.decimal.specs.Remainder.{zero_remainder, cut_off, remainder}
 use Rattle.decimal.proofs.AnswerLaws.{then_next, then_refused}
-use Rattle.decimal.proofs.RemainderLaws.{remainder-fit}
+use Rattle.decimal.proofs.RemainderLaws.{remainder_fit}
 use Rattle.codec.specs.declared.contents.Contents.{Contents}
 use Rattle.codec.specs.declared.lists.Images.{Images}
 use Rattle.codec.specs.declared.lists.Numbers.{Numbers}
@@ -30,7 +30,7 @@ use Rattle.codec.proofs.ContentsLaws.{alone_sound, alone_read}
 use Rattle.codec.proofs.UnderLaws.{image_count, image_list_lem, lent_images, packing_lent}
 use Rattle.codec.proofs.PackLaws.{packed_anywhere, packs_length}
 use Rattle.codec.proofs.BodyLaws.{list_length, list_front, packed_only, fits_at}
-use Rattle.codec.proofs.RoomTheorem.{packing-body}
+use Rattle.codec.proofs.RoomTheorem.{packing_body}
 
 -- Column by column.
 
@@ -71,7 +71,7 @@ left_next (im ∷ ims) (n ∷ ns) (suc k) d e h g =
 
 -- the remainder of a number that fits is found
 found_fit : (column : ℕ) (im : Image) (n : Number) → Fit im n → cut_or_zero (remainder column im n) ≡ cut_off im n (truncated_to im n)
-found_fit column im n fit = ap cut_or_zero (remainder-fit im n fit column)
+found_fit column im n fit = ap cut_or_zero (remainder_fit im n fit column)
 
 -- The call.
 
@@ -99,7 +99,7 @@ pub body_packs :
     → AllPack table.images ns
 unfolding body_of
 body_packs contents ns room {table} reads h =
-    packed_only table.images ns (sym (then_next (λ (t : Table). pack_list t.images ns) reads) ∙ packing-body contents ns room h)
+    packed_only table.images ns (sym (then_next (λ (t : Table). pack_list t.images ns) reads) ∙ packing_body contents ns room h)
 
 -- and packing leaves what its truncations leave
 pub body_left :

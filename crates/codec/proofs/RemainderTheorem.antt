@@ -11,7 +11,7 @@ use Rattle.decimal.specs.Answer.{Answer, done, refused, given}
 use Rattle.decimal.specs.Truncation.{Truncated, truncated_to}
 use Rattle.decimal.specs.Remainder.{zero_remainder, IsRemainder}
 use Rattle.decimal.proofs.AnswerLaws.{never, one_answer, refused_first}
-use Rattle.decimal.proofs.RemainderLaws.{remainder-fit}
+use Rattle.decimal.proofs.RemainderLaws.{remainder_fit}
 use Rattle.decimal.proofs.RemainderTheorem.{left_once, fit_left, remainder_exactly}
 use Rattle.codec.specs.Contents.{IsContents, Table, read_alone}
 use Rattle.codec.specs.Order.{Truncations}
@@ -22,7 +22,7 @@ use Rattle.codec.specs.Remainders.{packing_remainders, remainders_of, RemainderE
 use Rattle.codec.proofs.ListLaws.{filled_at}
 use Rattle.codec.proofs.ContentsTheorem.{alone_exactly, contents_unique}
 use Rattle.codec.proofs.PackLaws.{packed_anywhere, packs_under, packs_fit}
-use Rattle.codec.proofs.RoomTheorem.{packing-body}
+use Rattle.codec.proofs.RoomTheorem.{packing_body}
 use Rattle.codec.proofs.ReadBackTheorem.{contents_packs, contents_read_back}
 use Rattle.codec.proofs.RemainderLaws.{left_of, left_refused, refused_none, body_packs, body_left}
 
@@ -49,7 +49,7 @@ packs_sum : {ims : List Image} {ns ts : List Number} → AllPack ims ns → Trun
 unfolding left_of
 packs_sum AllPack.none Truncations.none = SumEach.none
 packs_sum (AllPack.one {im} {n} p ps) (Truncations.one cut others) =
-    SumEach.one ((remainder_exactly 0 im n).number_sum (cut 0) (remainder-fit im n (packs_fit p) 0)) (packs_sum ps others)
+    SumEach.one ((remainder_exactly 0 im n).number_sum (cut 0) (remainder_fit im n (packs_fit p) 0)) (packs_sum ps others)
 
 -- Published: what stands in the code's list, place by place: the remainders, and behind them that of zero.
 pub list_places : (rs : List Remainder) (i : ℕ) (d : Remainder) → i < max_columns → get_or (remainders_of rs).values i d ≡ get_or rs i zero_remainder
@@ -61,7 +61,7 @@ list_places rs i d h = filled_at zero_remainder max_columns rs i d h
 module _ (contents : List ℕ) (ns : List Number) (room : ℕ) where
   -- where there is a body, the contents is read
   body_read : {body : List ℕ} → packing contents ns room ≡ done body → (table : Table) × (read_alone contents ≡ done table)
-  body_read h = let p = contents_packs contents ns (packing-body contents ns room h) in (p.0, p.1)
+  body_read h = let p = contents_packs contents ns (packing_body contents ns room h) in (p.0, p.1)
 
   -- where there are remainders, there is a body
   remainders_body : {rs : List Remainder} → packing_remainders contents ns room ≡ done rs → (body : List ℕ) × (packing contents ns room ≡ done body)
@@ -118,7 +118,7 @@ module _ (contents : List ℕ) (ns : List Number) (room : ℕ) where
       → packing_remainders contents ns room ≡ done rs
       → SumEach ns ts rs
   back_sum {body} {ts} {rs} packed read h =
-      let b = contents_read_back contents (packing-body contents ns room packed) in
+      let b = contents_read_back contents (packing_body contents ns room packed) in
       let numbers : b.2 ≡ ts = one_answer b.4 read in
       let remainders : left_of b.0.images ns ≡ rs = one_answer (body_left contents ns room b.1 packed) h in
       subst (SumEach ns ts) remainders

@@ -119,44 +119,44 @@ module _ (contents : List ℕ) (ns : List Number) where
 
   module _ (room : ℕ) where
     -- a body longer than the room is refused with 6
-    pub longer-refused : {body : List ℕ} → body_of contents ns ≡ done body → room < length body → packing contents ns room ≡ refused 6 0
+    pub longer_refused : {body : List ℕ} → body_of contents ns ≡ done body → room < length body → packing contents ns room ≡ refused 6 0
     unfolding packing ◌then◌ within
-    longer-refused {body} h l = rw (h, lt-ltb room (length body) l)
+    longer_refused {body} h l = rw (h, lt-ltb room (length body) l)
 
     -- a body within the room is given
-    pub within-done : {body : List ℕ} → body_of contents ns ≡ done body → length body ≤ room → packing contents ns room ≡ done body
+    pub within_done : {body : List ℕ} → body_of contents ns ≡ done body → length body ≤ room → packing contents ns room ≡ done body
     unfolding packing ◌then◌ within
-    within-done {body} h l = rw (h, le-ltb room (length body) l)
+    within_done {body} h l = rw (h, le-ltb room (length body) l)
 
     -- where there is no body, packing is refused as the body is
-    pub none-refused : {number place : ℕ} → body_of contents ns ≡ refused number place → packing contents ns room ≡ refused number place
+    pub none_refused : {number place : ℕ} → body_of contents ns ≡ refused number place → packing contents ns room ≡ refused number place
     unfolding packing ◌then◌
-    none-refused h = rw h
+    none_refused h = rw h
 
     -- what packing gives is the body
-    pub packing-body : {body : List ℕ} → packing contents ns room ≡ done body → body_of contents ns ≡ done body
-    packing-body {body} h = go (body_of contents ns) refl
+    pub packing_body : {body : List ℕ} → packing contents ns room ≡ done body → body_of contents ns ≡ done body
+    packing_body {body} h = go (body_of contents ns) refl
       where
         go : (a : Answer (List ℕ)) → body_of contents ns ≡ a → body_of contents ns ≡ done body
         go (done b) e =
             ⊎_elim
-            (λ le. e ∙ sym (within-done e le) ∙ h)
-            (λ lt. never (longer-refused e lt) h)
+            (λ le. e ∙ sym (within_done e le) ∙ h)
+            (λ lt. never (longer_refused e lt) h)
             (le_or_lt (length b) room)
-        go (refused number at_place) e = never (none-refused e) h
+        go (refused number at_place) e = never (none_refused e) h
 
     -- and nothing else is refused with 6
-    pub pack-refused-six :
+    pub pack_refused_six :
         {place : ℕ} → packing contents ns room ≡ refused 6 place → (body : List ℕ) × (body_of contents ns ≡ done body) × (room < length body)
-    pack-refused-six {place} h = go (body_of contents ns) refl
+    pack_refused_six {place} h = go (body_of contents ns) refl
       where
         go : (a : Answer (List ℕ)) → body_of contents ns ≡ a → (body : List ℕ) × (body_of contents ns ≡ done body) × (room < length body)
         go (done body) e =
             ⊎_elim
-            (λ le. let d = within-done e le in let z : ◌≡◌ {A = ℕ} 0 1 = cc in absurd (omega arith))
+            (λ le. let d = within_done e le in let z : ◌≡◌ {A = ℕ} 0 1 = cc in absurd (omega arith))
             (λ lt. (body, e, lt))
             (le_or_lt (length body) room)
         go (refused number at_place) e =
-            let same : ◌≡◌ {A = Answer (List ℕ)} (refused number at_place) (refused 6 place) = sym (none-refused e) ∙ h in
+            let same : ◌≡◌ {A = Answer (List ℕ)} (refused number at_place) (refused 6 place) = sym (none_refused e) ∙ h in
             let six : number ≡ 6 = cc in
             absurd (body_not_six e six)

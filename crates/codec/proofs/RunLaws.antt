@@ -154,34 +154,34 @@ module _ (im : Image) (t : Truncated) where
 
   module _ (small : exponent_size t ≤ exponent_limit) where
     -- two digits of |x|
-    exponent-digits : exponent_halves true t ≡ exponent_size t / 10 ∷ (exponent_size t % 10 ∷ [])
+    exponent_digits : exponent_halves true t ≡ exponent_size t / 10 ∷ (exponent_size t % 10 ∷ [])
     unfolding exponent_halves digits_of
-    exponent-digits =
+    exponent_digits =
         let tens : exponent_size t / 10 % 10 ≡ exponent_size t / 10 = mod-eq_of_lt (omega arith) in
         ap₂ (λ (a b : ℕ). a ∷ (b ∷ [])) tens (ap (λ (k : ℕ). k % 10) (omega arith))
 
     -- an even count: the exponent's two digits are a byte behind the run
-    pub bytes-even :
+    pub bytes_even :
         (k : ℕ)
         → sign_count im.sign + hashes im ≡ 2 * k
         → im.exponential ≡ true
         → pack_halves (halves_in (2 * k) (packed_of column_front)) ++ ((exponent_size t / 10 * 16 + exponent_size t % 10) ∷ []) ≡ column_bytes im t
     unfolding column_bytes zeros pack_halves
-    bytes-even k even kind =
+    bytes_even k even kind =
         let pad : pad_count im ≡ 0 = ap (λ (b : Bool). (sign_count im.sign + (hashes im + exponent_count b)) % 2) kind ∙ omega arith in
         let behind : List ℕ = exponent_size t / 10 ∷ (exponent_size t % 10 ∷ []) in
         ap (λ (hs : List ℕ). pack_halves hs ++ pack_halves behind) (halves_of_packed (2 * k) column_front (front_length ∙ even) front_halves)
         ∙ sym (pack_halves_append column_front behind k (front_length ∙ even))
-        ∙ ap pack_halves (sym (column_parts kind pad ∙ ap (λ (hs : List ℕ). column_front ++ (hs ++ [])) exponent-digits))
+        ∙ ap pack_halves (sym (column_parts kind pad ∙ ap (λ (hs : List ℕ). column_front ++ (hs ++ [])) exponent_digits))
 
     -- an odd count: the first digit fills the run's last byte, and the second one and a zero half are a byte behind it
-    pub bytes-odd :
+    pub bytes_odd :
         (k : ℕ)
         → sign_count im.sign + hashes im + 1 ≡ 2 * k
         → im.exponential ≡ true
         → pack_halves (halves_in (2 * k) (packed_of (column_front ++ exponent_size t / 10 ∷ []))) ++ ((exponent_size t % 10 * 16) ∷ []) ≡ column_bytes im t
     unfolding column_bytes zeros pack_halves Halves
-    bytes-odd k odd kind =
+    bytes_odd k odd kind =
         let pad : pad_count im ≡ 1 = ap (λ (b : Bool). (sign_count im.sign + (hashes im + exponent_count b)) % 2) kind ∙ omega arith in
         let tens : ℕ = exponent_size t / 10 in
         let behind : List ℕ = exponent_size t % 10 ∷ (0 ∷ []) in
@@ -192,4 +192,4 @@ module _ (im : Image) (t : Truncated) where
         ∙ sym (pack_halves_append (column_front ++ tens ∷ []) behind k long)
         ∙ ap pack_halves
         (append_assoc column_front (tens ∷ []) behind
-        ∙ sym (column_parts kind pad ∙ ap (λ (hs : List ℕ). column_front ++ (hs ++ 0 ∷ [])) exponent-digits))
+        ∙ sym (column_parts kind pad ∙ ap (λ (hs : List ℕ). column_front ++ (hs ++ 0 ∷ [])) exponent_digits))

@@ -125,8 +125,8 @@ module _ (images : Images) where
 
   module _ (long : images.count ≤ length images.values) where
     -- else as the first image that is
-    pub count-each : 1 ≤ images.count → images.count ≤ max_columns → check_images (image_list images) ≡ check_each 0 (take images.count images.values)
-    count-each low high =
+    pub count_each : 1 ≤ images.count → images.count ≤ max_columns → check_images (image_list images) ≡ check_each 0 (take images.count images.values)
+    count_each low high =
         checks_each (image_list images) (omega (arith, image_count images)) (omega (arith, image_count images))
         ∙ ap (check_each 0) (image_list_lem images long)
 
@@ -143,17 +143,17 @@ module _ (images : Images) where
           (ap (λ (i : ℕ). check_each i (drop i (take images.count images.values))) (sym (add-one k)))
 
       -- an image that is refused decides
-      pub each-refused :
+      pub each_refused :
           {number place : ℕ}
           → check_image k (get_or images.values k d) ≡ refused number place
           → check_each k (drop k (take images.count images.values)) ≡ refused number place
       unfolding check_each ◌then◌
-      each-refused h = ap (check_each k) (taken_from d images.count images.values k here long) ∙ rw h
+      each_refused h = ap (check_each k) (taken_from d images.count images.values k here long) ∙ rw h
 
     -- behind the last image nothing is refused
-    pub each-end : (k : ℕ) → images.count ≤ k → check_each k (drop k (take images.count images.values)) ≡ done tt
+    pub each_end : (k : ℕ) → images.count ≤ k → check_each k (drop k (take images.count images.values)) ≡ done tt
     unfolding check_each
-    each-end k h =
+    each_end k h =
         ap (check_each k) (drop_of_length-le (take images.count images.values) {i = k} (omega (arith, length-take-le images.count images.values long)))
 
 -- what an array of images that are not refused is

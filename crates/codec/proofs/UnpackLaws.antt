@@ -383,15 +383,15 @@ module _ (im : Image) (sign whole size : ℕ) where
   module _ (low : sign % 8 < 2) where
     module _ (none : whole ≡ 0) where
       -- a minus on zero
-      pub breaks-minus : sign % 8 ≡ 1 → breaks_rules im sign whole size ≡ true
+      pub breaks_minus : sign % 8 ≡ 1 → breaks_rules im sign whole size ≡ true
       unfolding breaks_rules
-      breaks-minus minus = rw (lt-leb 2 (sign % 8) low, eq-eqb (sign % 8) 1 minus, eq-eqb whole 0 none)
+      breaks_minus minus = rw (lt-leb 2 (sign % 8) low, eq-eqb (sign % 8) 1 minus, eq-eqb whole 0 none)
 
       module _ (plus : sign % 8 ≡ 1 → ⊥) where
         -- zero with a negative x
-        pub breaks-zero-below : 8 ≤ sign → breaks_rules im sign whole size ≡ true
+        pub breaks_zero_below : 8 ≤ sign → breaks_rules im sign whole size ≡ true
         unfolding breaks_rules
-        breaks-zero-below below =
+        breaks_zero_below below =
             ⊎_elim
             (λ (z : size ≡ 0).
             rw (lt-leb 2 (sign % 8) low, ne_eqb (sign % 8) 1 plus, le-leb 8 sign below, eq-eqb size 0 z))
@@ -401,9 +401,9 @@ module _ (im : Image) (sign whole size : ℕ) where
             (zero_or_not size)
 
         -- zero with another x
-        pub breaks-zero-above : sign < 8 → leb 1 size ≡ breaks_rules im sign whole size
+        pub breaks_zero_above : sign < 8 → leb 1 size ≡ breaks_rules im sign whole size
         unfolding breaks_rules
-        breaks-zero-above above =
+        breaks_zero_above above =
             let under : whole < 1 = omega arith in
             rw (lt-leb 2 (sign % 8) low, ne_eqb (sign % 8) 1 plus, lt-leb 8 sign above, eq-eqb whole 0 none, lt-leb 1 whole under, and_none im.exponential)
             (same (leb 1 size))
@@ -414,19 +414,19 @@ module _ (im : Image) (sign whole size : ℕ) where
 
     module _ (some : whole ≡ 0 → ⊥) where
       -- an 8 where x is 0
-      pub breaks-below : 8 ≤ sign → size ≡ 0 → breaks_rules im sign whole size ≡ true
+      pub breaks_below : 8 ≤ sign → size ≡ 0 → breaks_rules im sign whole size ≡ true
       unfolding breaks_rules
-      breaks-below below z =
+      breaks_below below z =
           rw (lt-leb 2 (sign % 8) low, ne_eqb whole 0 some, and_none (eqb (sign % 8) 1), le-leb 8 sign below, eq-eqb size 0 z)
 
       -- else only the first digit counts
-      pub breaks-first :
+      pub breaks_first :
           (8 ≤ sign → size ≡ 0 → ⊥)
           → (b : Bool)
           → im.exponential ≡ b
           → breaks_rules im sign whole size ≡ pick b (ltb (whole * 10) (10 ^ hashes im)) false
       unfolding breaks_rules
-      breaks-first placed b kind =
+      breaks_first placed b kind =
           let more : 1 ≤ whole = omega arith in
           rw (lt-leb 2 (sign % 8) low, ne_eqb whole 0 some, and_none (eqb (sign % 8) 1), third, le-leb 1 whole more, kind)
           (last b (ltb (whole * 10) (10 ^ hashes im)))
@@ -501,17 +501,17 @@ module _ (images : Images) (good : check_images (image_list images) ≡ done tt)
 
   module _ (column : ℕ) (here : column < images.count) where
     -- the list has the next one
-    pub image-further : column < length (image_list images)
-    image-further = omega (arith, image_count images)
+    pub image_further : column < length (image_list images)
+    image_further = omega (arith, image_count images)
 
     -- which the array has in its place
-    pub image-picked : get_or images.values column no_image ≡ get_or (image_list images) column no_image
+    pub image_picked : get_or images.values column no_image ≡ get_or (image_list images) column no_image
     unfolding image_list
-    image-picked = sym (filled_at no_image images.count images.values column no_image here)
+    image_picked = sym (filled_at no_image images.count images.values column no_image here)
 
     -- its count of # signs is within the limits
-    pub image-checked : Checked (get_or images.values column no_image)
-    image-checked = rw image-picked (checked_at images_checked column image-further)
+    pub image_checked : Checked (get_or images.values column no_image)
+    image_checked = rw image_picked (checked_at images_checked column image_further)
 
 -- The columns, from the left.
 
@@ -570,9 +570,9 @@ module _ {ims : List Image} {body : List ℕ} {values : List Number} {start colu
 
   module _ {size : ℕ} (sized : size ≡ column_size im) where
     -- the part of the body that the code lends
-    same-part :
+    same_part :
         unpack_column column im (take (start + size - start) (drop start body)) ≡ unpack_column column im (take (column_size im) (drop start body))
-    same-part =
+    same_part =
         let length_same : start + size - start ≡ column_size im = omega arith in
         ap (λ (k : ℕ). unpack_column column im (take k (drop start body))) length_same
 
@@ -582,7 +582,7 @@ module _ {ims : List Image} {body : List ℕ} {values : List Number} {start colu
         → unpack_column column im (take (start + size - start) (drop start body)) ≡ refused number place
         → unpack_columns 0 ims body ≡ refused number place
     unfolding ◌then◌
-    columns_refused h = u.rest ∙ rw (columns_rest, sym same-part ∙ h)
+    columns_refused h = u.rest ∙ rw (columns_rest, sym same_part ∙ h)
 
     -- a column that is read
     pub columns_turn :
@@ -601,7 +601,7 @@ module _ {ims : List Image} {body : List ℕ} {values : List Number} {start colu
           left = rw (add-one column) (omega (arith, columns_left, u.left));
           rest =
               u.rest
-              ∙ rw (columns_rest, sym same-part ∙ h, add-one column)
+              ∙ rw (columns_rest, sym same_part ∙ h, add-one column)
               (then_twice (unpack_columns (suc column) (drop (suc column) ims) (drop (start + column_size im) body)) u.numbers n);
         })
 
@@ -645,14 +645,14 @@ module _ (ims : List Image) (body : List ℕ) where
 
   module _ (good : check_images ims ≡ done tt) where
     -- a body of another length
-    pub under-other : (length body ≡ body_size ims → ⊥) → unpack_under ims body ≡ refused 11 0
+    pub under_other : (length body ≡ body_size ims → ⊥) → unpack_under ims body ≡ refused 11 0
     unfolding unpack_body
-    under-other other = unpack_under_checked ims body good ∙ rw (ne_eqb (length body) (body_size ims) other)
+    under_other other = unpack_under_checked ims body good ∙ rw (ne_eqb (length body) (body_size ims) other)
 
     -- a body of its length
-    pub under-columns : length body ≡ body_size ims → unpack_under ims body ≡ unpack_columns 0 ims body
+    pub under_columns : length body ≡ body_size ims → unpack_under ims body ≡ unpack_columns 0 ims body
     unfolding unpack_body
-    under-columns same = unpack_under_checked ims body good ∙ rw (eq-eqb (length body) (body_size ims) same)
+    under_columns same = unpack_under_checked ims body good ∙ rw (eq-eqb (length body) (body_size ims) same)
 
 -- What the code's answer tells of a body.
 

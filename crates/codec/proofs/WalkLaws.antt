@@ -127,9 +127,9 @@ module _ (text : List ℕ) (from : ℕ) where
 
   module _ (place : ℕ) (skipping : Skipping text from place) where
     -- a text number begins behind the blanks that stand here
-    pub skip-here : {blanks : ℕ} → place < length text → blanks ≡ blanks_in (drop place text)
+    pub skip_here : {blanks : ℕ} → place < length text → blanks ≡ blanks_in (drop place text)
         → (legal_length (drop (place + blanks) text) ≡ 0 → ⊥) → place ≡ number_place text from
-    skip-here {blanks} h count some =
+    skip_here {blanks} h count some =
         let bytes = drop place text in
         let behind : drop (place + blanks) text ≡ drop (blanks_in bytes) bytes =
         sym (drop-drop blanks place text) ∙ ap (λ (n : ℕ). drop n bytes) count in
@@ -138,28 +138,28 @@ module _ (text : List ℕ) (from : ℕ) where
 
     module _ {blanks : ℕ} (count : blanks ≡ blanks_in (drop place text)) where
       -- none begins behind the blanks that stand here
-      skip-blanks : legal_length (drop (place + blanks) text) ≡ 0 → Skipping text from (place + blanks)
-      skip-blanks none =
+      skip_blanks : legal_length (drop (place + blanks) text) ≡ 0 → Skipping text from (place + blanks)
+      skip_blanks none =
           let bytes = drop place text in
           let behind : drop (place + blanks) text ≡ drop (blanks_in bytes) bytes =
           sym (drop-drop blanks place text) ∙ ap (λ (n : ℕ). drop n bytes) count in
           omega (arith, before_over bytes (sym (ap legal_length behind) ∙ none), ap bytes_before behind)
 
       -- so skipping goes on behind the byte that stands there
-      pub skip-past : place + blanks < length text → legal_length (drop (place + blanks) text) ≡ 0 → Skipping text from (place + blanks + 1)
-      skip-past h none = omega (arith, skip-blanks none, before_none text (place + blanks) h none)
+      pub skip_past : place + blanks < length text → legal_length (drop (place + blanks) text) ≡ 0 → Skipping text from (place + blanks + 1)
+      skip_past h none = omega (arith, skip_blanks none, before_none text (place + blanks) h none)
 
       -- or ends where blanks stand up to the end
-      pub skip-blank-end : length text ≤ place + blanks → place + blanks ≡ number_place text from
+      pub skip_blank_end : length text ≤ place + blanks → place + blanks ≡ number_place text from
       unfolding bytes_before
-      skip-blank-end h =
+      skip_blank_end h =
           let empty = drop_of_length-le text h in
-          omega (arith, skip-blanks (ap legal_length empty ∙ empty_length), ap bytes_before empty)
+          omega (arith, skip_blanks (ap legal_length empty ∙ empty_length), ap bytes_before empty)
 
     -- the end
-    pub skip-ends : length text ≤ place → place ≡ number_place text from
+    pub skip_ends : length text ≤ place → place ≡ number_place text from
     unfolding bytes_before
-    skip-ends h =
+    skip_ends h =
         let none : bytes_before (drop place text) ≡ 0 = ap bytes_before (drop_of_length-le text h) in
         omega arith
 
@@ -173,18 +173,18 @@ module _ (text : List ℕ) (place : ℕ) where
 
   module _ (inside : place < length text) where
     -- no text number begins here
-    pub stop-none : legal_length (drop place text) ≡ 0 → gives.NoNumber ≡ stop_before (drop place text)
+    pub stop_none : legal_length (drop place text) ≡ 0 → gives.NoNumber ≡ stop_before (drop place text)
     unfolding stop_before
-    stop-none none =
+    stop_none none =
         rw (
           ne_eqb (length (drop place text)) 0 (λ e. omega (arith, length-drop place text)),
           eq-eqb (legal_length (drop place text)) 0 none,
         )
 
     -- one begins here
-    pub stop-many : (legal_length (drop place text) ≡ 0 → ⊥) → gives.TooMany ≡ stop_before (drop place text)
+    pub stop_many : (legal_length (drop place text) ≡ 0 → ⊥) → gives.TooMany ≡ stop_before (drop place text)
     unfolding stop_before
-    stop-many some =
+    stop_many some =
         rw (
           ne_eqb (length (drop place text)) 0 (λ e. omega (arith, length-drop place text)),
           ne_eqb (legal_length (drop place text)) 0 some,
@@ -222,17 +222,17 @@ module _ (index place : ℕ) (bytes : List ℕ) where
 
   module _ (left : ℕ) (some : legal_length bytes ≡ 0 → ⊥) where
     -- a number before those behind it
-    pub numbers-number : {n : Number} → (reading_in bytes).number ≡ done n
+    pub numbers_number : {n : Number} → (reading_in bytes).number ≡ done n
         → numbers_in (suc left) index place bytes
         ≡ behind (n ∷ []) (numbers_in left (suc index) (place + legal_length bytes) (drop (legal_length bytes) bytes))
     unfolding numbers_in with_number behind
-    numbers-number e = rw (ne_eqb (legal_length bytes) 0 some, e)
+    numbers_number e = rw (ne_eqb (legal_length bytes) 0 some, e)
 
     -- a number refused
-    pub numbers-refused : {number at_place : ℕ} → (reading_in bytes).number ≡ refused number at_place
+    pub numbers_refused : {number at_place : ℕ} → (reading_in bytes).number ≡ refused number at_place
         → numbers_in (suc left) index place bytes ≡ stopped (gives.Refused (record { number = number; place = index })) place
     unfolding numbers_in with_number
-    numbers-refused e = rw (ne_eqb (legal_length bytes) 0 some, e)
+    numbers_refused e = rw (ne_eqb (legal_length bytes) 0 some, e)
 
 -- the numbers that are read stand in the array, and with those that are left they are the whole
 pub record Collecting (text : List ℕ) (from : ℕ) (values : List Number) (count place : ℕ) : Type 0 where
@@ -260,17 +260,17 @@ module _ (text : List ℕ) (from : ℕ) where
         ∙ sym (ap walked_of (r.whole ∙ ap (behind r.front) e))
 
     -- no text number begins here
-    pub collecting-stops : {answer : WalkAnswer} → legal_length (drop place text) ≡ 0 → answer ≡ stop_before (drop place text)
+    pub collecting_stops : {answer : WalkAnswer} → legal_length (drop place text) ≡ 0 → answer ≡ stop_before (drop place text)
         → ◌≡◌ {A = Walked} (record { answer = answer; numbers = record { values = values; count = count }; place = place })
         (walked_of (walking text from))
-    collecting-stops {answer} none e =
+    collecting_stops {answer} none e =
         answered answer (numbers_stop count place (drop place text) r.left none ∙ ap (λ (a : WalkAnswer). stopped a place) (sym e))
 
     -- the array is full
-    pub collecting-ends : {answer : WalkAnswer} → max_columns ≤ count → answer ≡ stop_before (drop place text)
+    pub collecting_ends : {answer : WalkAnswer} → max_columns ≤ count → answer ≡ stop_before (drop place text)
         → ◌≡◌ {A = Walked} (record { answer = answer; numbers = record { values = values; count = count }; place = place })
         (walked_of (walking text from))
-    collecting-ends {answer} full e =
+    collecting_ends {answer} full e =
         let none : r.left ≡ 0 = omega (arith, r.room) in
         answered answer
         (ap (λ (n : ℕ). numbers_in n count place (drop place text)) none
@@ -283,7 +283,7 @@ module _ (text : List ℕ) (from : ℕ) where
       one_left = omega (arith, r.room)
 
       -- a number refused
-      pub collecting-refused : {number at_place : ℕ} → (reading_in (drop place text)).number ≡ refused number at_place
+      pub collecting_refused : {number at_place : ℕ} → (reading_in (drop place text)).number ≡ refused number at_place
           → ◌≡◌ {A = Walked}
           (record {
             answer = gives.Refused (record { number = number; place = count });
@@ -291,15 +291,15 @@ module _ (text : List ℕ) (from : ℕ) where
             place = place;
           })
           (walked_of (walking text from))
-      collecting-refused e =
+      collecting_refused e =
           answered _
           (ap (λ (n : ℕ). numbers_in n count place (drop place text)) one_left
-          ∙ numbers-refused count place (drop place text) (r.left - 1) some e)
+          ∙ numbers_refused count place (drop place text) (r.left - 1) some e)
 
       -- a number more
-      pub collecting-turns : {n : Number} {used : ℕ} → (reading_in (drop place text)).number ≡ done n → used ≡ legal_length (drop place text)
+      pub collecting_turns : {n : Number} {used : ℕ} → (reading_in (drop place text)).number ≡ done n → used ≡ legal_length (drop place text)
           → Collecting text from (set values count n) (count + 1) (place + used)
-      collecting-turns {n} {used} e size =
+      collecting_turns {n} {used} e size =
           let rest = numbers_in (r.left - 1) (count + 1) (place + used) (drop (place + used) text) in
           let moved : numbers_in (r.left - 1) (suc count) (place + legal_length (drop place text))
           (drop (legal_length (drop place text)) (drop place text)) ≡ rest =
@@ -316,7 +316,7 @@ module _ (text : List ℕ) (from : ℕ) where
             whole =
                 r.whole
                 ∙ ap (λ (m : ℕ). behind r.front (numbers_in m count place (drop place text))) one_left
-                ∙ ap (behind r.front) (numbers-number count place (drop place text) (r.left - 1) some e)
+                ∙ ap (behind r.front) (numbers_number count place (drop place text) (r.left - 1) some e)
                 ∙ ap (λ (w : Walk). behind r.front (behind (n ∷ []) w)) moved
                 ∙ behind_next r.front n rest;
           }

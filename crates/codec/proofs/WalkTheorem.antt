@@ -26,7 +26,7 @@ use Rattle.codec.proofs.PartLaws.{stops_byte, sign_no_blank}
 use Rattle.codec.proofs.FormLaws.{Ends, ends_blanks, ends_last, text_append, starts_numeral, parts_before, converts_form}
 use Rattle.codec.proofs.AlphaForm.{alpha_parts, alpha_form, alpha_reads_back}
 use Rattle.codec.proofs.LongestTheorem.{empty_length}
-use Rattle.codec.proofs.WalkLaws.{stop_end, stop-none, behind, numbers_stop, numbers-number}
+use Rattle.codec.proofs.WalkLaws.{stop_end, stop_none, behind, numbers_stop, numbers_number}
 
 -- One text before bytes that end it.
 
@@ -49,7 +49,7 @@ text_walks : (t : TextParts) → Legal t.numeral → {n : Number} → text_value
 text_walks t legal {n} value r ends left index place =
     let size = length_before t legal r ends in
     let some : legal_length (text_bytes t ++ r) ≡ 0 → ⊥ = λ none. omega (arith, text_long t, legal.some) in
-    numbers-number index place (text_bytes t ++ r) left some (value_before t legal r ends ∙ value)
+    numbers_number index place (text_bytes t ++ r) left some (value_before t legal r ends ∙ value)
     ∙ (λ i. behind (n ∷ []) (numbers_in left (suc index) (place + size i) (drop (size i) (text_bytes t ++ r))))
     ∙ ap (λ (l : List ℕ). behind (n ∷ []) (numbers_in left (suc index) (place + length (text_bytes t)) l)) (drop-append_seam (text_bytes t) r)
 
@@ -266,7 +266,7 @@ line_back ims ns {texts} h few =
           ap (numbers_in max_columns 0 from) e
           ∙ parted_walks (line_end ∷ others) (byte_ends others) all.1 few from
           ∙ (λ i. record {
-            answer = sym (stop-none (line_end ∷ others) 0 (omega arith) (byte_ends others).no_number) i;
+            answer = sym (stop_none (line_end ∷ others) 0 (omega arith) (byte_ends others).no_number) i;
             numbers = all.0;
             place = from + length (parted texts);
           });

@@ -121,15 +121,15 @@ module _ (a b : Number) (h : normal a ≡ true) (g : normal b ≡ true) where
 
   module _ (s : a.mantissa ≡ 0 → ⊥) (t : b.mantissa ≡ 0 → ⊥) where
     -- the larger exponent has the larger magnitude
-    pub exponent-less : a.exponent < b.exponent → whole_order (magnitude a) (magnitude b) ≡ Less
+    pub exponent_less : a.exponent < b.exponent → whole_order (magnitude a) (magnitude b) ≡ Less
     unfolding magnitude
-    exponent-less l =
+    exponent_less l =
         whole_less (magnitude a) (magnitude b)
         (exponent_decides (precision - 1) a.mantissa a.exponent b.mantissa b.exponent (normal_range a h s).high (normal_range b g t).low l)
 
-    pub exponent-greater : b.exponent < a.exponent → whole_order (magnitude a) (magnitude b) ≡ Greater
+    pub exponent_greater : b.exponent < a.exponent → whole_order (magnitude a) (magnitude b) ≡ Greater
     unfolding magnitude
-    exponent-greater l =
+    exponent_greater l =
         whole_greater (magnitude a) (magnitude b)
         (exponent_decides (precision - 1) b.mantissa b.exponent a.mantissa a.exponent (normal_range b g t).high (normal_range a h s).low l)
 

@@ -11,9 +11,9 @@ use Rattle.decimal.specs.Constructors.{IsParts, PartsExactly, IsScaled, ScaledOu
 use Rattle.decimal.proofs.AnswerLaws.{never, one_answer}
 use Rattle.decimal.proofs.PowerLaws.{pow10_pos, pow10_add, pow10_mono, times_power}
 use Rattle.decimal.proofs.DigitLaws.{le_or_lt, leading_low, leading_top}
-use Rattle.decimal.proofs.NumberLaws.{check_normal, check_abnormal, normal_top, number_path, scaled_too_long, scaled_zero, scaled_shifted, shifted-below, shifted-above, shifted-done}
+use Rattle.decimal.proofs.NumberLaws.{check_normal, check_abnormal, normal_top, number_path, scaled_too_long, scaled_zero, scaled_shifted, shifted_below, shifted_above, shifted_done}
 use Rattle.decimal.proofs.PartsLaws.{HeldAs, parts_held, parts_below, parts_above}
-use Rattle.decimal.proofs.MagnitudeLaws.{normal_unique, scaled-normal, scaled-magnitude, scaled_sign, scaled_refused_five}
+use Rattle.decimal.proofs.MagnitudeLaws.{normal_unique, scaled_normal, scaled_magnitude, scaled_sign, scaled_refused_five}
 
 -- A sign, a mantissa and an exponent.
 
@@ -58,15 +58,15 @@ module _ (place : ℕ) (negative : Bool) (mantissa : ℕ) (e : ℤ) where
   pub parts_exactly : PartsExactly place negative mantissa e
   parts_exactly =
       record {
-        number = λ n. (is-parts parts_view, parts_given);
+        number = λ n. (is_parts parts_view, parts_given);
         three = (λ r n s. never r (parts_given s), refuses parts_view);
         one_of = one_of parts_view;
-        limits = λ r. (lt_z_no (not-held (parts_below place negative mantissa e) r), lt_z_no (not-held (parts_above place negative mantissa e) r));
+        limits = λ r. (lt_z_no (not_held (parts_below place negative mantissa e) r), lt_z_no (not_held (parts_above place negative mantissa e) r));
       }
     where
-      is-parts : {n : Number} → PartsView → parts ≡ done n → IsParts negative mantissa e n
-      is-parts (PartsView.number m s h) r = subst (IsParts negative mantissa e) (one_answer h r) s
-      is-parts (PartsView.none h) r = never h r
+      is_parts : {n : Number} → PartsView → parts ≡ done n → IsParts negative mantissa e n
+      is_parts (PartsView.number m s h) r = subst (IsParts negative mantissa e) (one_answer h r) s
+      is_parts (PartsView.none h) r = never h r
 
       refuses : PartsView → ((n : Number) → IsParts negative mantissa e n → ⊥) → parts ≡ refused 3 place
       refuses (PartsView.number m s h) f = absurd (f m s)
@@ -76,9 +76,9 @@ module _ (place : ℕ) (negative : Bool) (mantissa : ℕ) (e : ℤ) where
       one_of (PartsView.number m s h) = inl (m, h)
       one_of (PartsView.none h) = inr h
 
-      not-held : {t : Bool} {n : Number} → (t ≡ true → parts ≡ refused 3 place) → parts ≡ done n → T (not t)
-      not-held {t = true} f r = never (f refl) r
-      not-held {t = false} f r = tt
+      not_held : {t : Bool} {n : Number} → (t ≡ true → parts ≡ refused 3 place) → parts ≡ done n → T (not t)
+      not_held {t = true} f r = never (f refl) r
+      not_held {t = false} f r = tt
 
 -- The arithmetic, over the width: w with z tens behind it has suc p digits.
 
@@ -175,9 +175,9 @@ module _ (place : ℕ) (negative : Bool) (whole up down : ℕ) where
   given_scaled : {n : Number} → answer ≡ done n → IsScaled negative whole up down n
   given_scaled {n} h =
       record {
-        form = scaled-normal place negative whole up down h;
+        form = scaled_normal place negative whole up down h;
         sign = ⊎_elim plus asked (le_or_lt whole 0);
-        size = scaled-magnitude place negative whole up down h;
+        size = scaled_magnitude place negative whole up down h;
       }
     where
       plus : whole ≤ 0 → n.negative ≡ (negative && not (eqb whole 0))
@@ -194,12 +194,12 @@ module _ (place : ℕ) (negative : Bool) (whole up down : ℕ) where
 
   module _ (positive : 0 < whole) (fits : whole < 10 ^ precision) where
     -- where its digits do not reach down to 10^−99
-    below-view : start < down + lead → View
-    below-view h =
+    below_view : start < down + lead → View
+    below_view h =
         View.outside fits
         (too_small positive
         (below_power (precision - 1) whole lead (up + exponent_limit) down (leading_top (precision - 1) whole positive fits) (omega arith)))
-        (scaled_shifted place negative whole up down positive fits ∙ shifted-below place negative whole up down lead h)
+        (scaled_shifted place negative whole up down positive fits ∙ shifted_below place negative whole up down lead h)
 
     module _ (room : down + lead ≤ start) where
       -- where they go on above 10^99
@@ -208,33 +208,33 @@ module _ (place : ℕ) (negative : Bool) (whole up down : ℕ) where
           View.outside fits
           (too_large
           (from_power (precision - 1) whole lead up (down + suc exponent_limit) (leading_low (precision - 1) whole positive fits) (omega arith)))
-          (scaled_shifted place negative whole up down positive fits ∙ shifted-above place negative whole up down lead room h)
+          (scaled_shifted place negative whole up down positive fits ∙ shifted_above place negative whole up down lead room h)
 
       -- within the limits a magnitude is not outside
-      limits-within : start - (down + lead) ≤ 2 * exponent_limit → ScaledOutside whole up down → ⊥
-      limits-within top (too_small some h) =
+      limits_within : start - (down + lead) ≤ 2 * exponent_limit → ScaledOutside whole up down → ⊥
+      limits_within top (too_small some h) =
           let least =
           from_power (precision - 1) whole lead (up + exponent_limit) down (leading_low (precision - 1) whole positive fits) (omega arith)
           in
           omega arith
-      limits-within top (too_large h) =
+      limits_within top (too_large h) =
           let most =
           below_power (precision - 1) whole lead up (down + suc exponent_limit) (leading_top (precision - 1) whole positive fits) (omega arith)
           in
           omega arith
 
       -- there the number is given
-      within-view : start - (down + lead) ≤ 2 * exponent_limit → View
-      within-view top =
-          let h = scaled_shifted place negative whole up down positive fits ∙ shifted-done place negative whole up down lead room top in
-          View.given fits (limits-within top) _ (given_scaled h) h
+      within_view : start - (down + lead) ≤ 2 * exponent_limit → View
+      within_view top =
+          let h = scaled_shifted place negative whole up down positive fits ∙ shifted_done place negative whole up down lead room top in
+          View.given fits (limits_within top) _ (given_scaled h) h
 
     -- a whole number that is not zero
-    some-view : View
-    some-view =
+    some_view : View
+    some_view =
         ⊎_elim
-        (λ room. ⊎_elim (within-view room) (above_view room) (le_or_lt (start - (down + lead)) (2 * exponent_limit)))
-        below-view
+        (λ room. ⊎_elim (within_view room) (above_view room) (le_or_lt (start - (down + lead)) (2 * exponent_limit)))
+        below_view
         (le_or_lt (down + lead) start)
 
   -- the view of every answer
@@ -242,11 +242,11 @@ module _ (place : ℕ) (negative : Bool) (whole up down : ℕ) where
   view =
       ⊎_elim
       (λ h. View.long h (scaled_too_long place negative whole up down h))
-      (λ fits. ⊎_elim (none-view fits) (λ some. some-view some fits) (le_or_lt whole 0))
+      (λ fits. ⊎_elim (none_view fits) (λ some. some_view some fits) (le_or_lt whole 0))
       (le_or_lt (10 ^ precision) whole)
     where
-      none-view : whole < 10 ^ precision → whole ≤ 0 → View
-      none-view fits le =
+      none_view : whole < 10 ^ precision → whole ≤ 0 → View
+      none_view fits le =
           let e : whole ≡ 0 = omega arith in
           let h = scaled_zero place negative whole up down e in
           View.given fits (zero_within e) zero_number (given_scaled h) h
@@ -260,8 +260,8 @@ module _ (place : ℕ) (negative : Bool) (whole up down : ℕ) where
   scaled_exactly =
       record {
         three = (three view, scaled_too_long place negative whole up down);
-        five = (five view, λ o. outside-five view o.0 o.1);
-        number = λ n. (number view, λ s. scaled-number view s.0 s.1);
+        five = (five view, λ o. outside_five view o.0 o.1);
+        number = λ n. (number view, λ s. scaled_number_lem view s.0 s.1);
         one_of = one_of view;
       }
     where
@@ -275,20 +275,20 @@ module _ (place : ℕ) (negative : Bool) (whole up down : ℕ) where
       five (View.outside fits o e) r = (fits, o)
       five (View.given fits o n s e) r = never r e
 
-      outside-five : View → whole < 10 ^ precision → ScaledOutside whole up down → answer ≡ refused 5 place
-      outside-five (View.long h e) fits o = absurd (omega arith)
-      outside-five (View.outside _ _ e) fits o = e
-      outside-five (View.given _ not-outside n s e) fits o = absurd (not-outside o)
+      outside_five : View → whole < 10 ^ precision → ScaledOutside whole up down → answer ≡ refused 5 place
+      outside_five (View.long h e) fits o = absurd (omega arith)
+      outside_five (View.outside _ _ e) fits o = e
+      outside_five (View.given _ not-outside n s e) fits o = absurd (not-outside o)
 
       number : {n : Number} → View → answer ≡ done n → (whole < 10 ^ precision) × IsScaled negative whole up down n
       number (View.long h e) r = never e r
       number (View.outside fits o e) r = never e r
       number (View.given fits o m s e) r = (fits, given_scaled r)
 
-      scaled-number : {n : Number} → View → whole < 10 ^ precision → IsScaled negative whole up down n → answer ≡ done n
-      scaled-number (View.long h e) fits s = absurd (omega arith)
-      scaled-number {n} (View.outside _ o e) fits s = absurd (scaled_refused_five place negative whole up down fits e n s.form s.size)
-      scaled-number (View.given _ o m t e) fits s = e ∙ ap done (scaled_unique t s)
+      scaled_number_lem : {n : Number} → View → whole < 10 ^ precision → IsScaled negative whole up down n → answer ≡ done n
+      scaled_number_lem (View.long h e) fits s = absurd (omega arith)
+      scaled_number_lem {n} (View.outside _ o e) fits s = absurd (scaled_refused_five place negative whole up down fits e n s.form s.size)
+      scaled_number_lem (View.given _ o m t e) fits s = e ∙ ap done (scaled_unique t s)
 
       one_of :
           View → ((n : Number) × (answer ≡ done n)) ⊎ ((answer ≡ refused 3 place) ⊎ (answer ≡ refused 5 place))
@@ -315,7 +315,7 @@ module _ (steps : ℕ) where
   steps_exactly =
       record {
         three = scaled.three;
-        number = λ n. (λ r. let s = (scaled.number n).0 r in (s.0, steps_of s.1), λ s. (scaled.number n).1 (s.0, scaled-of s.1));
+        number = λ n. (λ r. let s = (scaled.number n).0 r in (s.0, steps_of s.1), λ s. (scaled.number n).1 (s.0, scaled_of s.1));
         one_of = ⊎_elim (λ d. inl d) (λ r. inr (⊎_elim (λ t. t) (λ f. let o = scaled.five.0 f in absurd (steps_within o.0 o.1)) r)) scaled.one_of;
       }
     where
@@ -327,8 +327,8 @@ module _ (steps : ℕ) where
             size = sym (mul-one (magnitude n)) ∙ s.size ∙ ap (λ (q : ℕ). q * unit) (mul-one steps);
           }
 
-      scaled-of : {n : Number} → IsSteps steps n → IsScaled false steps 0 0 n
-      scaled-of {n} s =
+      scaled_of : {n : Number} → IsSteps steps n → IsScaled false steps 0 0 n
+      scaled_of {n} s =
           record {
             form = s.form;
             sign = s.sign;

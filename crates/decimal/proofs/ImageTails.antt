@@ -90,21 +90,21 @@ module _ (accepts : State → Bool) (stopped-not : accepts Stopped ≡ false) wh
     up_step n bs ih false e h = stopped_rejects bs h
 
     -- one byte behind 5E bytes
-    up-byte : (n : ℕ) {b : ℕ} (bs : List ℕ) → ((m : ℕ) → UpTail m bs) → ByteView b → UpTail n (b ∷ bs)
+    up_byte_lem : (n : ℕ) {b : ℕ} (bs : List ℕ) → ((m : ℕ) → UpTail m bs) → ByteView b → UpTail n (b ∷ bs)
     unfolding run_state next_state
-    up-byte n bs ih is_plus h = stopped_rejects bs h
-    up-byte n bs ih is_minus h = stopped_rejects bs h
-    up-byte n bs ih is_hash h = stopped_rejects bs h
-    up-byte n bs ih is_point h = stopped_rejects bs h
-    up-byte n bs ih is_comma h = stopped_rejects bs h
-    up-byte n bs ih is_up h = up_step n bs ih (ltb n ups) refl h
-    up-byte n bs ih (is_other e) h = stopped_rejects bs (subst (λ (s : State). accepts (run_state s bs) ≡ true) (e (Up n)) h)
+    up_byte_lem n bs ih is_plus h = stopped_rejects bs h
+    up_byte_lem n bs ih is_minus h = stopped_rejects bs h
+    up_byte_lem n bs ih is_hash h = stopped_rejects bs h
+    up_byte_lem n bs ih is_point h = stopped_rejects bs h
+    up_byte_lem n bs ih is_comma h = stopped_rejects bs h
+    up_byte_lem n bs ih is_up h = up_step n bs ih (ltb n ups) refl h
+    up_byte_lem n bs ih (is_other e) h = stopped_rejects bs (subst (λ (s : State). accepts (run_state s bs) ≡ true) (e (Up n)) h)
 
     -- all bytes behind 5E bytes
-    pub ups-behind : (n : ℕ) (bs : List ℕ) → UpTail n bs
+    pub ups_behind : (n : ℕ) (bs : List ℕ) → UpTail n bs
     unfolding run_state times
-    ups-behind n [] h = ap (λ (k : ℕ). times (ups - k) up_byte) (sym (eqb-true n ups (sym (four n) ∙ h)))
-    ups-behind n (b ∷ bs) h = up-byte n bs (λ m. ups-behind m bs) (view b) h
+    ups_behind n [] h = ap (λ (k : ℕ). times (ups - k) up_byte) (sym (eqb-true n ups (sym (four n) ∙ h)))
+    ups_behind n (b ∷ bs) h = up_byte_lem n bs (λ m. ups_behind m bs) (view b) h
 
 -- The states from which no image is reached: a comma was read, or the bytes begin no field.
 
@@ -171,7 +171,7 @@ halted_by bs e h = halted bs (subst (λ (s : State). is_image (run_state s bs) �
 
 -- behind n of the 5E bytes stand the others
 up_tail : (n : ℕ) (bs : List ℕ) → is_image (run_state (Up n) bs) ≡ true → bs ≡ times (ups - n) up_byte
-up_tail = ups-behind is_image refl (λ n. refl)
+up_tail = ups_behind is_image refl (λ n. refl)
 
 -- # signs behind the point, at least so many, and the 5E bytes or none
 record Behind (least : ℕ) (bs : List ℕ) : Type 0 where

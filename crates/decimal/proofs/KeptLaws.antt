@@ -15,7 +15,7 @@ use Rattle.decimal.proofs.BoolLaws.{and_again, and_none, zero_or_not}
 use Rattle.decimal.proofs.PowerLaws.{times_power}
 use Rattle.decimal.proofs.DigitLaws.{le_or_lt, leading_unique}
 use Rattle.decimal.proofs.ScaleLaws.{scaled_vanishes, scaled_drops, cut_low, cut_high, cut_again}
-use Rattle.decimal.proofs.NumberLaws.{InRange, normal_range, normal_high, range_normal, zero_normal, scaled_zero, scaled_shifted, shifted-done, number_path}
+use Rattle.decimal.proofs.NumberLaws.{InRange, normal_range, normal_high, range_normal, zero_normal, scaled_zero, scaled_shifted, shifted_done, number_path}
 use Rattle.decimal.proofs.TruncationLaws.{truncation_fit, truncation_done, fit_truncation, fit_fixed, fit_exponential, exceeds_zero, outside_zero, stored_zero, stored_exponential, stored_fixed, kept_zero, kept_exponential, kept_fixed, same_outside, same_exceeds, same_stored, same_kept}
 
 -- What an answer without its result tells.
@@ -66,8 +66,8 @@ module _ (im : Image) (n : Number) where
 
   module _ (fit : Fit im n) where
     -- no more digits are kept than the image has
-    pub kept-size : kept_count im n ≤ hashes im
-    kept-size = ⊎_elim (λ z. omega (arith, kept_zero im n z)) (λ nz. go nz im.exponential refl) (zero_or_not n.mantissa)
+    pub kept_size : kept_count im n ≤ hashes im
+    kept_size = ⊎_elim (λ z. omega (arith, kept_zero im n z)) (λ nz. go nz im.exponential refl) (zero_or_not n.mantissa)
       where
         go : (n.mantissa ≡ 0 → ⊥) → (b : Bool) → im.exponential ≡ b → kept_count im n ≤ hashes im
         go nz true kind = omega (arith, kept_exponential im n nz kind)
@@ -93,7 +93,7 @@ module _ (im : Image) (n : Number) where
             ∙ sym (ap (λ (k : ℕ). n.mantissa / 10 ^ (precision - k)) all ∙ div-eq_of_lt high))
             (λ lt.
             scaled_drops (precision - 1) exponent_limit n.mantissa n.exponent im.fraction (dropped_count im n) (exponent_limit + (precision - 1))
-            (omega (arith, kept-size, fit.size)))
+            (omega (arith, kept_size, fit.size)))
             (le_or_lt (n.exponent + im.fraction + 1) exponent_limit)
 
         go : (n.mantissa ≡ 0 → ⊥) → (b : Bool) → im.exponential ≡ b → whole_of im n ≡ n.mantissa / 10 ^ (dropped_count im n)
@@ -102,8 +102,8 @@ module _ (im : Image) (n : Number) where
         go nz false kind = whole_fixed kind ∙ fixed nz kind
 
     -- some digit is kept of a number that is not truncated to zero
-    kept-positive : 0 < kept_count im n → 10 ^ (precision - 1) ≤ n.mantissa / 10 ^ (dropped_count im n) * 10 ^ (dropped_count im n)
-    kept-positive h =
+    kept_positive : 0 < kept_count im n → 10 ^ (precision - 1) ≤ n.mantissa / 10 ^ (dropped_count im n) * 10 ^ (dropped_count im n)
+    kept_positive h =
         let nonzero : n.mantissa ≡ 0 → ⊥ = λ z. omega (arith, kept_zero im n z) in
         cut_low (precision - 1) n.mantissa (dropped_count im n) (normal_range n fit.number_checked nonzero).low (omega arith)
 
@@ -122,18 +122,18 @@ module _ (im : Image) (n : Number) where
             (λ z.
             let r = dropped_count im n in
             let vanished : n.mantissa / 10 ^ r * 10 ^ r ≡ 0 = ap (λ (k : ℕ). k * 10 ^ r) (sym kept_whole ∙ z) ∙ zero-mul (10 ^ r) in
-            omega (arith, kept-positive (omega arith)))
+            omega (arith, kept_positive (omega arith)))
             ∙ sym (ne_eqb (kept_count im n) 0 ne)
 
     -- the sign of the truncation
-    pub kept-sign : (truncated_to im n).negative ≡ (kept_number im n).negative
+    pub kept_sign : (truncated_to im n).negative ≡ (kept_number im n).negative
     unfolding truncated_to kept_number
-    kept-sign = ap (λ (b : Bool). is_signed im.sign && (n.negative && not b)) kept_none
+    kept_sign = ap (λ (b : Bool). is_signed im.sign && (n.negative && not b)) kept_none
 
     -- with no digit kept the truncation is zero
-    pub number-none : (place : ℕ) → kept_count im n ≡ 0 → number_of place im (truncated_to im n) ≡ done zero_number
+    pub number_none : (place : ℕ) → kept_count im n ≡ 0 → number_of place im (truncated_to im n) ≡ done zero_number
     unfolding number_of truncated_to
-    number-none place e = scaled_zero _ _ _ _ _ (eqb-true (whole_of im n) 0 (kept_none ∙ eq-eqb (kept_count im n) 0 e))
+    number_none place e = scaled_zero _ _ _ _ _ (eqb-true (whole_of im n) 0 (kept_none ∙ eq-eqb (kept_count im n) 0 e))
 
     module _ (some : 0 < kept_count im n) where
       nonzero : n.mantissa ≡ 0 → ⊥
@@ -143,60 +143,60 @@ module _ (im : Image) (n : Number) where
       range = normal_range n fit.number_checked nonzero
 
       -- k and the digits that become zero make 13 digits
-      whole-low : 10 ^ (precision - 1) ≤ whole_of im n * 10 ^ dropped_count im n
-      whole-low = rw kept_whole (kept-positive some)
+      whole_low : 10 ^ (precision - 1) ≤ whole_of im n * 10 ^ dropped_count im n
+      whole_low = rw kept_whole (kept_positive some)
 
-      whole-high : whole_of im n * 10 ^ dropped_count im n < 10 ^ precision
-      whole-high =
+      whole_high : whole_of im n * 10 ^ dropped_count im n < 10 ^ precision
+      whole_high =
           let cut : whole_of im n * 10 ^ dropped_count im n ≤ n.mantissa = rw kept_whole (cut_high (precision - 1) n.mantissa (dropped_count im n)) in
           omega (arith, range.high)
 
       -- the stored exponent and the places behind the point give the exponent back
-      exponent-kept : exponent_limit + (precision - 1) + stored_exponent im n ≡ n.exponent + (exponent_limit + im.fraction + dropped_count im n)
-      exponent-kept = go im.exponential refl
+      exponent_kept : exponent_limit + (precision - 1) + stored_exponent im n ≡ n.exponent + (exponent_limit + im.fraction + dropped_count im n)
+      exponent_kept = go im.exponential refl
         where
           go : (b : Bool)
               → im.exponential ≡ b
               → exponent_limit + (precision - 1) + stored_exponent im n ≡ n.exponent + (exponent_limit + im.fraction + dropped_count im n)
           go true kind =
               omega (arith, kept_exponential im n nonzero kind, stored_exponential im n nonzero kind, fit_exponential im n fit kind nonzero, fit.size)
-          go false kind = omega (arith, kept_fixed im n nonzero kind, stored_fixed im n nonzero kind, kept-size, fit.size)
+          go false kind = omega (arith, kept_fixed im n nonzero kind, stored_fixed im n nonzero kind, kept_size, fit.size)
 
       -- with some digit kept the truncation is the number with the other digits zero
-      pub number-some : (place : ℕ) → number_of place im (truncated_to im n) ≡ done (kept_number im n)
+      pub number_some : (place : ℕ) → number_of place im (truncated_to im n) ≡ done (kept_number im n)
       unfolding number_of truncated_to kept_number
-      number-some place =
-          let zeros = leading_unique (precision - 1) (whole_of im n) (dropped_count im n) whole-low whole-high in
+      number_some place =
+          let zeros = leading_unique (precision - 1) (whole_of im n) (dropped_count im n) whole_low whole_high in
           let down = exponent_limit + im.fraction in
           let x = stored_exponent im n in
           let negative = (truncated_to im n).negative in
           let nonzero-whole = eqb-false (whole_of im n) 0 (kept_none ∙ ne_eqb (kept_count im n) 0 (omega arith)) in
-          scaled_shifted place negative (whole_of im n) x down (omega arith) (omega (arith, times_power (whole_of im n) (dropped_count im n), whole-high))
+          scaled_shifted place negative (whole_of im n) x down (omega arith) (omega (arith, times_power (whole_of im n) (dropped_count im n), whole_high))
           ∙ ap (λ (z : ℕ). shifted_number place negative (whole_of im n) x down z) zeros
-          ∙ shifted-done place negative (whole_of im n) x down (dropped_count im n) (omega (arith, exponent-kept)) (omega (arith, exponent-kept, range.top))
-          ∙ ap {B = Answer Number} done (number_path kept-sign (ap (λ (k : ℕ). k * 10 ^ dropped_count im n) kept_whole) (omega (arith, exponent-kept)))
+          ∙ shifted_done place negative (whole_of im n) x down (dropped_count im n) (omega (arith, exponent_kept)) (omega (arith, exponent_kept, range.top))
+          ∙ ap {B = Answer Number} done (number_path kept_sign (ap (λ (k : ℕ). k * 10 ^ dropped_count im n) kept_whole) (omega (arith, exponent_kept)))
 
-      kept-range : InRange (kept_number im n)
+      kept_range : InRange (kept_number im n)
       unfolding kept_number
-      kept-range =
+      kept_range =
           let cut = cut_high (precision - 1) n.mantissa (dropped_count im n) in
-          record { low = kept-positive some; high = omega (arith, range.high); top = range.top }
+          record { low = kept_positive some; high = omega (arith, range.high); top = range.top }
 
-      kept-nonzero : (kept_number im n).mantissa ≡ 0 → ⊥
-      kept-nonzero z = omega (arith, kept-range.low)
+      kept_nonzero : (kept_number im n).mantissa ≡ 0 → ⊥
+      kept_nonzero z = omega (arith, kept_range.low)
 
       -- that number fits the image as well
-      kept-fits : Fit im (kept_number im n)
+      kept_fits : Fit im (kept_number im n)
       unfolding kept_number
-      kept-fits =
+      kept_fits =
           record {
             nonempty = fit.nonempty;
             size = fit.size;
-            number_checked = range_normal (kept_number im n) kept-range;
+            number_checked = range_normal (kept_number im n) kept_range;
             within =
                 ap₂ (λ (o x : Bool). pick im.exponential o x)
-                (same_outside im (kept_number im n) n kept-range range refl)
-                (same_exceeds im (kept_number im n) n kept-range range refl)
+                (same_outside im (kept_number im n) n kept_range range refl)
+                (same_exceeds im (kept_number im n) n kept_range range refl)
                 ∙ fit.within;
           }
 
@@ -215,20 +215,20 @@ module _ (im : Image) (n : Number) (fit : Fit im n) where
   unfolding truncated_to kept_number
   kept_again some =
       let k = kept_number im n in
-      let in-k = kept-range im n fit some in
+      let in-k = kept_range im n fit some in
       let in-n = range im n fit some in
       let count = same_kept im k n in-k in-n refl in
-      let fits = kept-fits im n fit some in
+      let fits = kept_fits im n fit some in
       let whole : whole_of im k ≡ whole_of im n =
       kept_whole im k fits
       ∙ ap (λ (c : ℕ). k.mantissa / 10 ^ (precision - c)) count
       ∙ cut_again (precision - 1) n.mantissa (dropped_count im n)
       ∙ sym (kept_whole im n fit) in
       truncated_path
-      (kept-sign im k fits
+      (kept_sign im k fits
       ∙ ap (λ (c : ℕ). is_signed im.sign && (k.negative && not (eqb c 0))) count
       ∙ and_again (is_signed im.sign) n.negative (not (eqb (kept_count im n) 0))
-      ∙ sym (kept-sign im n fit))
+      ∙ sym (kept_sign im n fit))
       whole
       (same_stored im k n in-k in-n refl)
 
@@ -239,17 +239,17 @@ module _ (im : Image) (n : Number) (fit : Fit im n) where
       truncated_path
       (and_none (is_signed im.sign) false
       ∙ sym
-      (kept-sign im n fit
+      (kept_sign im n fit
       ∙ rw (eq-eqb (kept_count im n) 0 none) (and_none (is_signed im.sign) n.negative)))
       (whole_zero im zero_number refl ∙ sym (eqb-true (whole_of im n) 0 (kept_none im n fit ∙ eq-eqb (kept_count im n) 0 none)))
       (stored_zero im zero_number refl ∙ sym stored)
     where
-      some-kind : (n.mantissa ≡ 0 → ⊥) → (b : Bool) → im.exponential ≡ b → stored_exponent im n ≡ exponent_limit
-      some-kind nz true kind = absurd (omega (arith, kept_exponential im n nz kind, fit.nonempty))
-      some-kind nz false kind = stored_fixed im n nz kind
+      some_kind : (n.mantissa ≡ 0 → ⊥) → (b : Bool) → im.exponential ≡ b → stored_exponent im n ≡ exponent_limit
+      some_kind nz true kind = absurd (omega (arith, kept_exponential im n nz kind, fit.nonempty))
+      some_kind nz false kind = stored_fixed im n nz kind
 
       stored : stored_exponent im n ≡ exponent_limit
-      stored = ⊎_elim (λ z. stored_zero im n z) (λ nz. some-kind nz im.exponential refl) (zero_or_not n.mantissa)
+      stored = ⊎_elim (λ z. stored_zero im n z) (λ nz. some_kind nz im.exponential refl) (zero_or_not n.mantissa)
 
   -- a truncation is a number in normal form that truncates to itself
   fit_itself : (place : ℕ) → TruncatesToItself place im (truncated_to im n)
@@ -259,7 +259,7 @@ module _ (im : Image) (n : Number) (fit : Fit im n) where
       none e =
           record {
             number = zero_number;
-            stands_for = number-none im n fit place e;
+            stands_for = number_none im n fit place e;
             is_normal = zero_normal;
             again =
                 fit_truncation place im zero_number (zero_fits im fit.nonempty fit.size)
@@ -269,10 +269,10 @@ module _ (im : Image) (n : Number) (fit : Fit im n) where
       some : (kept_count im n ≡ 0 → ⊥) → TruncatesToItself place im (truncated_to im n)
       some ne =
           let positive : 0 < kept_count im n = omega arith in
-          let fits = kept-fits im n fit positive in
+          let fits = kept_fits im n fit positive in
           record {
             number = kept_number im n;
-            stands_for = number-some im n fit positive place;
+            stands_for = number_some im n fit positive place;
             is_normal = fits.number_checked;
             again =
                 fit_truncation place im (kept_number im n) fits ∙ ap {B = Answer Truncated} done (kept_again positive);

@@ -8,7 +8,7 @@ use Rattle.decimal.specs.Digits.{precision, leading_zeros}
 use Rattle.decimal.specs.Number.{exponent_limit, zero_number, largest_number, normal, magnitude, unit, scaled_number}
 use Rattle.decimal.proofs.PowerLaws.{pow10_pos, pow10_add, pow10_mono, times_power}
 use Rattle.decimal.proofs.DigitLaws.{le_or_lt, leading_low, leading_top}
-use Rattle.decimal.proofs.NumberLaws.{InRange, normal_cases, range_normal, zero_normal, number_path, scaled_too_long, scaled_zero, scaled_shifted, shifted-below, shifted-above, shifted-done}
+use Rattle.decimal.proofs.NumberLaws.{InRange, normal_cases, range_normal, zero_normal, number_path, scaled_too_long, scaled_zero, scaled_shifted, shifted_below, shifted_above, shifted_done}
 
 -- The arithmetic, over the width: a mantissa has suc p digits.
 
@@ -173,7 +173,7 @@ module _ (place : ℕ) (negative : Bool) (whole up down : ℕ) where
   shifted_given : Shifted → scaled_number place negative whole up down ≡ done shifted
   shifted_given s =
       scaled_shifted place negative whole up down s.positive s.fits
-      ∙ shifted-done place negative whole up down lead s.room s.top
+      ∙ shifted_done place negative whole up down lead s.room s.top
 
   -- it is within the bounds
   shifted_range : Shifted → InRange shifted
@@ -203,24 +203,24 @@ module _ (place : ℕ) (negative : Bool) (whole up down : ℕ) where
           (λ room.
           ⊎_elim
           (λ top. record { positive = positive; fits = fits; room = room; top = top })
-          (λ above. absurd (not_both (shifted-above place negative whole up down lead room above) given))
+          (λ above. absurd (not_both (shifted_above place negative whole up down lead room above) given))
           (le_or_lt (start - (down + lead)) (2 * exponent_limit)))
-          (λ below. absurd (not_both (shifted-below place negative whole up down lead below) given))
+          (λ below. absurd (not_both (shifted_below place negative whole up down lead below) given))
           (le_or_lt (down + lead) start)
 
   module _ {n : Number} (given : scaled_number place negative whole up down ≡ done n) where
     -- the number given is in normal form
-    pub scaled-normal : normal n ≡ true
-    scaled-normal =
+    pub scaled_normal : normal n ≡ true
+    scaled_normal =
         ⊎_elim
         (λ e. rw e.1 zero_normal)
         (λ s. rw s.1 (range_normal shifted (shifted_range s.0)))
         (scaled_view given)
 
     -- its magnitude is whole × 10^up / 10^down
-    pub scaled-magnitude : magnitude n * 10 ^ down ≡ whole * 10 ^ up * unit
+    pub scaled_magnitude : magnitude n * 10 ^ down ≡ whole * 10 ^ up * unit
     unfolding magnitude
-    scaled-magnitude =
+    scaled_magnitude =
         ⊎_elim
         (λ e. rw (e.1, e.0, zero-mul (10 ^ exponent_limit), zero-mul (10 ^ down), zero-mul (10 ^ up), zero-mul unit))
         (λ s. rw s.1 (shifted_power whole lead (exponent_limit + (precision - 1)) up down s.0.room))
@@ -236,16 +236,16 @@ module _ (place : ℕ) (negative : Bool) (whole up down : ℕ) where
 
   module _ (n : Number) (fits : whole < 10 ^ precision) (means : magnitude n * 10 ^ down ≡ whole * 10 ^ up * unit) where
     -- where the magnitude is zero's, zero is given
-    meant-zero : n ≡ zero_number → scaled_number place negative whole up down ≡ done zero_number
-    meant-zero e =
+    meant_zero : n ≡ zero_number → scaled_number place negative whole up down ≡ done zero_number
+    meant_zero e =
         let nothing : magnitude n * 10 ^ down ≡ 0 = rw (e, zero_magnitude, zero-mul (10 ^ down)) in
         scaled_zero place negative whole up down (none_left whole up (exponent_limit + (precision - 1)) (sym means ∙ nothing))
 
     -- where it is that of a number within the bounds, that number is given with the sign asked for
-    meant-range :
+    meant_range :
         InRange n → scaled_number place negative whole up down ≡ done (record { negative = negative; mantissa = n.mantissa; exponent = n.exponent })
     unfolding magnitude
-    meant-range r =
+    meant_range r =
         let something = one-le-mul (range_positive n r) (pow10_pos down) in
         let positive = some_left (magnitude n * 10 ^ down) whole up (exponent_limit + (precision - 1)) something means in
         let low = leading_low (precision - 1) whole positive fits in
@@ -265,6 +265,6 @@ module _ (place : ℕ) (negative : Bool) (whole up down : ℕ) where
       → ⊥
   scaled_refused_five fits answer n h means =
       ⊎_elim
-      (λ e. not_both answer (meant-zero n fits means e))
-      (λ r. not_both answer (meant-range n fits means r))
+      (λ e. not_both answer (meant_zero n fits means e))
+      (λ r. not_both answer (meant_range n fits means r))
       (normal_cases n h)

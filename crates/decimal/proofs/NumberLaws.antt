@@ -128,26 +128,26 @@ module _ (place : ℕ) (negative : Bool) (whole up down : ℕ) where
 
   module _ (zeros : ℕ) where
     -- below the smallest exponent
-    pub shifted-below :
+    pub shifted_below :
         exponent_limit + (precision - 1) + up < down + zeros
         → shifted_number place negative whole up down zeros ≡ refused 5 place
     unfolding shifted_number
-    shifted-below h = rw (lt-ltb (exponent_limit + (precision - 1) + up) (down + zeros) h)
+    shifted_below h = rw (lt-ltb (exponent_limit + (precision - 1) + up) (down + zeros) h)
 
     -- above the largest exponent
-    pub shifted-above :
+    pub shifted_above :
         down + zeros ≤ exponent_limit + (precision - 1) + up
         → 2 * exponent_limit < exponent_limit + (precision - 1) + up - (down + zeros)
         → shifted_number place negative whole up down zeros ≡ refused 5 place
     unfolding shifted_number
-    shifted-above h l =
+    shifted_above h l =
         rw (
           le-ltb (exponent_limit + (precision - 1) + up) (down + zeros) h,
           lt-ltb (2 * exponent_limit) (exponent_limit + (precision - 1) + up - (down + zeros)) l,
         )
 
     -- within the limits
-    pub shifted-done :
+    pub shifted_done :
         down + zeros ≤ exponent_limit + (precision - 1) + up
         → exponent_limit + (precision - 1) + up - (down + zeros) ≤ 2 * exponent_limit
         → shifted_number place negative whole up down zeros
@@ -158,7 +158,7 @@ module _ (place : ℕ) (negative : Bool) (whole up down : ℕ) where
           exponent = exponent_limit + (precision - 1) + up - (down + zeros);
         })
     unfolding shifted_number
-    shifted-done h l =
+    shifted_done h l =
         rw (
           le-ltb (exponent_limit + (precision - 1) + up) (down + zeros) h,
           le-ltb (2 * exponent_limit) (exponent_limit + (precision - 1) + up - (down + zeros)) l,

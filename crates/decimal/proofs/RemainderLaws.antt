@@ -13,9 +13,9 @@ use Rattle.decimal.proofs.AnswerLaws.{then_next, then_refused}
 use Rattle.decimal.proofs.BoolLaws.{zero_or_not}
 use Rattle.decimal.proofs.PowerLaws.{pow10_pos, pow10_mono}
 use Rattle.decimal.proofs.ScaleLaws.{sum_counted, cut_sum}
-use Rattle.decimal.proofs.MagnitudeLaws.{scaled-magnitude}
+use Rattle.decimal.proofs.MagnitudeLaws.{scaled_magnitude}
 use Rattle.decimal.proofs.TruncationLaws.{fit_truncation}
-use Rattle.decimal.proofs.KeptLaws.{kept_none, kept_whole, number-some}
+use Rattle.decimal.proofs.KeptLaws.{kept_none, kept_whole, number_some}
 
 -- remainders are equal where their fields are
 pub remainder_path : {a b : Remainder} → a.whole ≡ b.whole → a.power ≡ b.power → a ≡ b
@@ -47,11 +47,11 @@ module _ (im : Image) (n : Number) where
 
   module _ (fit : Fit im n) where
     -- the truncated magnitude is the mantissa's first digits with zeros
-    truncated-first :
+    truncated_first :
         truncated_units (truncated_to im n)
         ≡ n.mantissa / 10 ^ dropped_count im n * 10 ^ dropped_count im n * 10 ^ n.exponent * finer im
     unfolding truncated_to number_of kept_number magnitude
-    truncated-first = ⊎_elim none (λ ne. some (omega arith)) (zero_or_not (kept_count im n))
+    truncated_first = ⊎_elim none (λ ne. some (omega arith)) (zero_or_not (kept_count im n))
       where
         none :
             kept_count im n ≡ 0
@@ -67,20 +67,20 @@ module _ (im : Image) (n : Number) where
             0 < kept_count im n
             → truncated_units (truncated_to im n)
             ≡ n.mantissa / 10 ^ dropped_count im n * 10 ^ dropped_count im n * 10 ^ n.exponent * finer im
-        some h = sym (scaled-magnitude 0 (truncated_to im n).negative (whole_of im n) (stored_exponent im n) (exponent_limit + im.fraction) (number-some im n fit h 0))
+        some h = sym (scaled_magnitude 0 (truncated_to im n).negative (whole_of im n) (stored_exponent im n) (exponent_limit + im.fraction) (number_some im n fit h 0))
 
     -- with the last digits it is the magnitude
     pub last_sum :
         truncated_units (truncated_to im n) + last_digits * 10 ^ n.exponent * finer im ≡ magnitude_units im n
     unfolding magnitude
     last_sum =
-        ap (λ (u : ℕ). u + last_digits * 10 ^ n.exponent * finer im) truncated-first
+        ap (λ (u : ℕ). u + last_digits * 10 ^ n.exponent * finer im) truncated_first
         ∙ cut_sum n.mantissa (10 ^ dropped_count im n) (10 ^ n.exponent) (finer im)
 
     -- r is the last digits
-    pub cut-last : (cut_off im n (truncated_to im n)).whole ≡ last_digits
+    pub cut_last : (cut_off im n (truncated_to im n)).whole ≡ last_digits
     unfolding cut_off
-    cut-last = ⊎_elim zero some (zero_or_not n.mantissa)
+    cut_last = ⊎_elim zero some (zero_or_not n.mantissa)
       where
         counted :
             (r p : ℕ)
@@ -101,9 +101,9 @@ module _ (im : Image) (n : Number) where
         some nz = rw (power_some n nz) (counted last_digits n.exponent last_sum)
 
     -- what is found of a number that fits
-    pub remainder-fit : (place : ℕ) → remainder place im n ≡ done (cut_off im n (truncated_to im n))
+    pub remainder_fit : (place : ℕ) → remainder place im n ≡ done (cut_off im n (truncated_to im n))
     unfolding remainder
-    remainder-fit place = then_next _ (fit_truncation place im n fit)
+    remainder_fit place = then_next _ (fit_truncation place im n fit)
 
   -- what truncation refuses has no remainder
   pub remainder_refused : (place : ℕ) {number at_place : ℕ} → truncation place im n ≡ refused number at_place → remainder place im n ≡ refused number at_place

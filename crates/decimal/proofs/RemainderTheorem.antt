@@ -14,9 +14,9 @@ use Rattle.decimal.specs.Remainder.{power_of, zero_remainder, finer, truncated_u
 use Rattle.decimal.proofs.AnswerLaws.{refused_first, done_same, one_answer, then_done}
 use Rattle.decimal.proofs.BoolLaws.{zero_or_not}
 use Rattle.decimal.proofs.PowerLaws.{pow10_pos}
-use Rattle.decimal.proofs.MagnitudeLaws.{scaled-magnitude}
+use Rattle.decimal.proofs.MagnitudeLaws.{scaled_magnitude}
 use Rattle.decimal.proofs.TruncationLaws.{truncation_fit, truncation_done}
-use Rattle.decimal.proofs.RemainderLaws.{remainder_path, power_zero, power_some, last_digits, last_zero, last_below, last_sum, cut-last, remainder-fit, remainder_refused}
+use Rattle.decimal.proofs.RemainderLaws.{remainder_path, power_zero, power_some, last_digits, last_zero, last_below, last_sum, cut_last, remainder_fit, remainder_refused}
 
 -- a sum taken away is its parts taken away
 less_sum : (a : ℤ) (b c : ℕ) → a -ℤ pos (b + c) ≡ a -ℤ pos b -ℤ pos c
@@ -72,18 +72,18 @@ module _ (im : Image) (n : Number) where
   unfolding cut_off
   fit_left fit =
       record {
-        below = rw (cut-last im n fit) (last_below im n);
+        below = rw (cut_last im n fit) (last_below im n);
         power = λ nz. ap (λ (p : ℕ). pos p -ℤ pos scale) (power_some n nz) ∙ less_sum (pos n.exponent) exponent_limit (precision - 1);
-        zero = λ z. (cut-last im n fit ∙ last_zero im n z, ap (λ (p : ℕ). pos p -ℤ pos scale) (power_zero n z) ∙ +ℤ_invr (pos scale));
+        zero = λ z. (cut_last im n fit ∙ last_zero im n z, ap (λ (p : ℕ). pos p -ℤ pos scale) (power_zero n z) ∙ +ℤ_invr (pos scale));
         sum =
             ap (λ (q : ℕ). truncated_units (truncated_to im n) + q)
-            (ap (λ (w : ℕ). w * 10 ^ cut_power n * finer im) (cut-last im n fit)
-            ∙ other_power (last_digits im n) (cut_power n) n.exponent (finer im) zero-or-power)
+            (ap (λ (w : ℕ). w * 10 ^ cut_power n * finer im) (cut_last im n fit)
+            ∙ other_power (last_digits im n) (cut_power n) n.exponent (finer im) zero_or_power)
             ∙ last_sum im n fit;
       }
     where
-      zero-or-power : (last_digits im n ≡ 0) ⊎ (cut_power n ≡ n.exponent)
-      zero-or-power = ⊎_elim (λ z. inl (last_zero im n z)) (λ nz. inr (power_some n nz)) (zero_or_not n.mantissa)
+      zero_or_power : (last_digits im n ≡ 0) ⊎ (cut_power n ≡ n.exponent)
+      zero_or_power = ⊎_elim (λ z. inl (last_zero im n z)) (λ nz. inr (power_some n nz)) (zero_or_not n.mantissa)
 
 module _ (place : ℕ) (im : Image) (n : Number) where
   -- a remainder that is given is what the truncation leaves
@@ -101,7 +101,7 @@ module _ (place : ℕ) (im : Image) (n : Number) where
   left_given {r} t h left =
       let fit = truncation_fit place im n h in
       let to : t ≡ truncated_to im n = truncation_done place im n h in
-      remainder-fit im n fit place
+      remainder_fit im n fit place
       ∙ ap done (left_once im n (subst (λ (k : Truncated). IsRemainder im n k r) to left) (fit_left im n fit))
 
   -- the number zero leaves zero's
@@ -114,7 +114,7 @@ module _ (place : ℕ) (im : Image) (n : Number) where
   refused_as : (number at_place : ℕ) → remainder place im n ≡ refused number at_place → truncation place im n ≡ refused number at_place
   unfolding remainder
   refused_as number at_place h =
-      refused_first (truncation place im n) (λ (t : Truncated). done (cut_off im n t)) (λ t e. (cut_off im n (truncated_to im n), remainder-fit im n (truncation_fit place im n e) place)) h
+      refused_first (truncation place im n) (λ (t : Truncated). done (cut_off im n t)) (λ t e. (cut_off im n (truncated_to im n), remainder_fit im n (truncation_fit place im n e) place)) h
 
   -- the truncation as a number
   as_number :
@@ -129,7 +129,7 @@ module _ (place : ℕ) (im : Image) (n : Number) where
       let t : Truncated = b.value in
       let sums : Sums im n t r = subst (λ (u : Truncated). Sums im n u r) (one_answer g.1 b.first) g.2.sum in
       let d : ℕ = finer im in
-      let size : magnitude m * d ≡ truncated_units t = scaled-magnitude place t.negative t.whole t.x (exponent_limit + im.fraction) b.second in
+      let size : magnitude m * d ≡ truncated_units t = scaled_magnitude place t.negative t.whole t.x (exponent_limit + im.fraction) b.second in
       eq_of_mul-eq-mul_right d (pow10_pos (exponent_limit + im.fraction)) (magnitude m + r.whole * 10 ^ r.power) (magnitude n)
       (add-mul (magnitude m) (r.whole * 10 ^ r.power) d ∙ ap (λ (q : ℕ). q + r.whole * 10 ^ r.power * d) size ∙ sums)
 

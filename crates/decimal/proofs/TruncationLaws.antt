@@ -56,46 +56,46 @@ module _ (place : ℕ) (im : Image) (n : Number) where
 
   module _ {j : Image} (checked : check_image place im ≡ done j) where
     -- a number not in normal form
-    pub truncation-abnormal : normal n ≡ false → truncation place im n ≡ refused 3 place
+    pub truncation_abnormal : normal n ≡ false → truncation place im n ≡ refused 3 place
     unfolding truncation ◌then◌
-    truncation-abnormal h = rw (checked, check_abnormal n place h)
+    truncation_abnormal h = rw (checked, check_abnormal n place h)
 
     module _ (is_normal : normal n ≡ true) where
       -- a number in normal form is refused by its limits alone
-      pub truncation-limited : truncation place im n ≡ limited place im n
+      pub truncation_limited : truncation place im n ≡ limited place im n
       unfolding truncation ◌then◌
-      truncation-limited = rw (checked, check_normal n place is_normal)
+      truncation_limited = rw (checked, check_normal n place is_normal)
 
       -- a number within its image's limits fits
-      pub within-fits : pick im.exponential (exponent_outside im n) (exceeds im n) ≡ false → Fit im n
-      within-fits h =
+      pub within_fits : pick im.exponential (exponent_outside im n) (exceeds im n) ≡ false → Fit im n
+      within_fits h =
           let sized = check_image_done place im j checked in
           record { nonempty = sized.1; size = sized.2; number_checked = is_normal; within = h }
 
   -- a number that fits is truncated
   pub fit_truncation : Fit im n → truncation place im n ≡ done (truncated_to im n)
   fit_truncation fit =
-      truncation-limited (check_within place im fit.nonempty fit.size) fit.number_checked ∙ limited_within fit.within
+      truncation_limited (check_within place im fit.nonempty fit.size) fit.number_checked ∙ limited_within fit.within
 
   -- only a number that fits is truncated
   pub truncation_fit : {t : Truncated} → truncation place im n ≡ done t → Fit im n
-  truncation_fit {t} h = image-case (check_image place im) refl
+  truncation_fit {t} h = image_case (check_image place im) refl
     where
       never : {number at_place : ℕ} → truncation place im n ≡ refused number at_place → Fit im n
       never e = absurd (let z : ◌≡◌ {A = ℕ} 0 1 = cc in omega arith)
 
       limits : {j : Image} → check_image place im ≡ done j → normal n ≡ true → (b : Bool) → im.exponential ≡ b → (o : Bool) → pick b (exponent_outside im n) (exceeds im n) ≡ o → Fit im n
-      limits c e true kind true o = never (truncation-limited c e ∙ limited_exponent kind o)
-      limits c e false kind true o = never (truncation-limited c e ∙ limited_exceeds kind o)
-      limits c e b kind false o = within-fits c e (subst⁻¹ (λ (k : Bool). pick k (exponent_outside im n) (exceeds im n) ≡ false) kind o)
+      limits c e true kind true o = never (truncation_limited c e ∙ limited_exponent kind o)
+      limits c e false kind true o = never (truncation_limited c e ∙ limited_exceeds kind o)
+      limits c e b kind false o = within_fits c e (subst⁻¹ (λ (k : Bool). pick k (exponent_outside im n) (exceeds im n) ≡ false) kind o)
 
-      number-case : {j : Image} → check_image place im ≡ done j → (b : Bool) → normal n ≡ b → Fit im n
-      number-case c true e = limits c e im.exponential refl (pick im.exponential (exponent_outside im n) (exceeds im n)) refl
-      number-case c false e = never (truncation-abnormal c e)
+      number_case : {j : Image} → check_image place im ≡ done j → (b : Bool) → normal n ≡ b → Fit im n
+      number_case c true e = limits c e im.exponential refl (pick im.exponential (exponent_outside im n) (exceeds im n)) refl
+      number_case c false e = never (truncation_abnormal c e)
 
-      image-case : (a : Answer Image) → check_image place im ≡ a → Fit im n
-      image-case (done j) e = number-case e (normal n) refl
-      image-case (refused number at_place) e = never (truncation_image_refused e)
+      image_case : (a : Answer Image) → check_image place im ≡ a → Fit im n
+      image_case (done j) e = number_case e (normal n) refl
+      image_case (refused number at_place) e = never (truncation_image_refused e)
 
   -- and it is truncated so
   pub truncation_done : {t : Truncated} → truncation place im n ≡ done t → t ≡ truncated_to im n
@@ -111,24 +111,24 @@ module _ (place : ℕ) (im : Image) (n : Number) where
   packed_refused h = rw h
 
   module _ (fit : Fit im n) where
-    packed-then : packed_truncation place im n ≡ packable place im (truncated_to im n)
+    packed_then : packed_truncation place im n ≡ packable place im (truncated_to im n)
     unfolding packed_truncation ◌then◌
-    packed-then = rw (fit_truncation place im n fit)
+    packed_then = rw (fit_truncation place im n fit)
 
     -- an image with a sign refuses no more
-    pub packed-signed : is_signed im.sign ≡ true → packed_truncation place im n ≡ done (truncated_to im n)
+    pub packed_signed : is_signed im.sign ≡ true → packed_truncation place im n ≡ done (truncated_to im n)
     unfolding packable
-    packed-signed h = packed-then ∙ rw h
+    packed_signed h = packed_then ∙ rw h
 
     -- an image without a sign refuses a negative x
-    pub packed-negative : is_signed im.sign ≡ false → stored_exponent im n < exponent_limit → packed_truncation place im n ≡ refused 5 place
+    pub packed_negative : is_signed im.sign ≡ false → stored_exponent im n < exponent_limit → packed_truncation place im n ≡ refused 5 place
     unfolding packable truncated_to
-    packed-negative h l = packed-then ∙ rw (h, lt-ltb (stored_exponent im n) exponent_limit l)
+    packed_negative h l = packed_then ∙ rw (h, lt-ltb (stored_exponent im n) exponent_limit l)
 
     -- and no other
-    pub packed-unsigned : is_signed im.sign ≡ false → exponent_limit ≤ stored_exponent im n → packed_truncation place im n ≡ done (truncated_to im n)
+    pub packed_unsigned : is_signed im.sign ≡ false → exponent_limit ≤ stored_exponent im n → packed_truncation place im n ≡ done (truncated_to im n)
     unfolding packable truncated_to
-    packed-unsigned h l = packed-then ∙ rw (h, le-ltb (stored_exponent im n) exponent_limit l)
+    packed_unsigned h l = packed_then ∙ rw (h, le-ltb (stored_exponent im n) exponent_limit l)
 
 -- "Exceeds" by exponents.
 

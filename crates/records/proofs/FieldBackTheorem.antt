@@ -186,7 +186,7 @@ fixed_short {m} valid f t kind =
       left =
           marked_sign valid im t f.sign (run_bytes f.runs ++ behind)
           ∙ ap (λ (l : List ℕ). sign_bytes (alpha_sign f.sign t.negative) ++ l) hidden.shows
-          ∙ ap (λ (l : List ℕ). sign_bytes (alpha_sign f.sign t.negative) ++ (digit_bytes hidden.digits ++ l)) (fixed_tail valid f t hidden.then-shown kind);
+          ∙ ap (λ (l : List ℕ). sign_bytes (alpha_sign f.sign t.negative) ++ (digit_bytes hidden.digits ++ l)) (fixed_tail valid f t hidden.then_shown kind);
     }
 
 -- Exponential fields.

@@ -25,7 +25,7 @@ use Rattle.codec.specs.Answers.{stored_in, written, sized}
 use Rattle.codec.specs.Alpha.{alpha_text, text_length, writing_alpha_under, blank_byte, zero_byte}
 use Rattle.codec.proofs.ListLaws.{filled_length}
 use Rattle.decimal.proofs.AnswerLaws.{never_done}
-use Rattle.codec.proofs.AlphaLaws.{text_length_lem, image_length, under_refused, under_done, writing-under-refused, writing-under-done}
+use Rattle.codec.proofs.AlphaLaws.{text_length_lem, image_length, under_refused, under_done, writing_under_refused, writing_under_done}
 use Rattle.records.specs.declared.fields.Fill.{Fill}
 use Rattle.records.specs.declared.fields.Element.{Element}
 use Rattle.records.specs.declared.fields.Element.TheVariants as element
@@ -322,7 +322,7 @@ module _ {field : List ℕ} (ready : FieldReady field) {im : Image} (same : im �
 
   -- so that there is room for it
   alpha_given : {t : Truncated} → truncation 0 im n ≡ done t → writing_alpha_under im n room ≡ done (alpha_text im t)
-  alpha_given {t} h = writing-under-done im n room (under_done im n h) (omega (arith, text_length_lem im t, exponential_length))
+  alpha_given {t} h = writing_under_done im n room (under_done im n h) (omega (arith, text_length_lem im t, exponential_length))
 
   -- a number is refused where it is not truncated
   pub alpha_refused : {number place : ℕ} → refused number place ≡ sized (writing_alpha_under im n room) → AlphaRefused im n room
@@ -331,7 +331,7 @@ module _ {field : List ℕ} (ready : FieldReady field) {im : Image} (same : im �
     where
       go : (a : Answer Truncated) → truncation 0 im n ≡ a → AlphaRefused im n room
       go (done t) k = never_done {number = number} {place = place} (h ∙ ap sized (alpha_given k))
-      go (refused x y) k = record { number = x; place = y; truncated = k; answer = writing-under-refused im n room (under_refused im n k) }
+      go (refused x y) k = record { number = x; place = y; truncated = k; answer = writing_under_refused im n room (under_refused im n k) }
 
   -- else its text is written
   pub alpha_written : {size : ℕ} → done size ≡ sized (writing_alpha_under im n room) → AlphaWritten im n room
@@ -340,7 +340,7 @@ module _ {field : List ℕ} (ready : FieldReady field) {im : Image} (same : im �
     where
       go : (a : Answer Truncated) → truncation 0 im n ≡ a → AlphaWritten im n room
       go (done t) k = record { to = t; truncated = k; answer = alpha_given k }
-      go (refused x y) k = never_done {number = x} {place = y} (sym (ap sized (writing-under-refused im n room (under_refused im n k))) ∙ sym h)
+      go (refused x y) k = never_done {number = x} {place = y} (sym (ap sized (writing_under_refused im n room (under_refused im n k))) ∙ sym h)
 
 -- What a number prints.
 

@@ -11,7 +11,7 @@ use Rattle.decimal.specs.declared.image.Sign.TheVariants.{Unsigned, Plus, Minus}
 use Rattle.decimal.specs.Image.{State, Start, Signed, Integer, Comma, Point, Fraction, Up, Stopped}
 use Rattle.decimal.specs.Answer.{pick}
 use Rattle.decimal.specs.Image.{hash_byte, point_byte, comma_byte, up_byte, ups, sign_bytes, times, fraction_bytes, up_bytes, next_state, run_state}
-use Rattle.decimal.proofs.ImageTails.{ByteView, is_plus, is_minus, is_hash, is_point, is_comma, is_up, is_other, view, stopped_rejects, ups-behind}
+use Rattle.decimal.proofs.ImageTails.{ByteView, is_plus, is_minus, is_hash, is_point, is_comma, is_up, is_other, view, stopped_rejects, ups_behind}
 use Rattle.records.specs.Scanning.{Field, run_bytes, field_bytes, Positive, total, IsField, is_field_state}
 
 -- The machine that stopped.
@@ -26,7 +26,7 @@ halted_by bs e h = halted bs (subst (λ (s : State). is_field_state (run_state s
 
 -- behind n of the 5E bytes stand the others
 up_tail : (n : ℕ) (bs : List ℕ) → is_field_state (run_state (Up n) bs) ≡ true → bs ≡ times (ups - n) up_byte
-up_tail = ups-behind is_field_state refl (λ n. refl)
+up_tail = ups_behind is_field_state refl (λ n. refl)
 
 -- Which kinds go on: a field with a comma is fixed point.
 

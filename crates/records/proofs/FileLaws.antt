@@ -133,12 +133,12 @@ module _ (file : List ℕ) where
 
   module _ (r : Contents) (h : r ≡ contents_of (read_contents file)) where
     -- so the code's answer is the file's where the contents is refused
-    pub file-stops : (refusal : Refusal) → r.answer ≡ checks.Refused refusal → r ≡ contents_of (read_file file)
-    file-stops refusal e = let q = told_refused (read_contents file) r refusal h e in h ∙ ap contents_of (q ∙ sym (file_first q))
+    pub file_stops : (refusal : Refusal) → r.answer ≡ checks.Refused refusal → r ≡ contents_of (read_file file)
+    file_stops refusal e = let q = told_refused (read_contents file) r refusal h e in h ∙ ap contents_of (q ∙ sym (file_first q))
 
     -- its own length is within the file
-    pub size-within : r.answer ≡ checks.Fine → r.size ≤ length file
-    size-within e = let t = told_read (read_contents file) r h e in omega (arith, t.size, contents_within file t.reads)
+    pub size_within : r.answer ≡ checks.Fine → r.size ≤ length file
+    size_within e = let t = told_read (read_contents file) r h e in omega (arith, t.size, contents_within file t.reads)
 
     -- a body is not empty
     pub body_some : r.answer ≡ checks.Fine → 0 < r.body
@@ -154,12 +154,12 @@ module _ (file : List ℕ) where
       left_over = λ i. (length file - told.size i) % told.body i
 
       -- the answer is the file's where there are none
-      pub file-whole : (length file - r.size) % r.body ≡ 0 → r ≡ contents_of (read_file file)
-      file-whole w = h ∙ ap contents_of (told.reads ∙ sym (file_done told.reads (sym left_over ∙ w)))
+      pub file_whole : (length file - r.size) % r.body ≡ 0 → r ≡ contents_of (read_file file)
+      file_whole w = h ∙ ap contents_of (told.reads ∙ sym (file_done told.reads (sym left_over ∙ w)))
 
       -- else the file is refused
-      pub file-torn : ((length file - r.size) % r.body ≡ 0 → ⊥) → read_file file ≡ refused 11 0
-      file-torn w = file_short told.reads (λ z. w (left_over ∙ z))
+      pub file_torn : ((length file - r.size) % r.body ≡ 0 → ⊥) → read_file file ≡ refused 11 0
+      file_torn w = file_short told.reads (λ z. w (left_over ∙ z))
 
 module _ (buffer : List ℕ) (used : ℕ) where
   -- a used length past the buffer
@@ -270,14 +270,14 @@ module _ (file : List ℕ) (r : Contents) (h : r ≡ contents_of (read_file file
 
     module _ (l : index < (length file - r.size) / r.body) where
       -- and where there is
-      pub read-shown : shown file index ≡ done (record { start = r.size + index * r.body; size = r.body })
-      read-shown =
+      pub read_shown : shown file index ≡ done (record { start = r.size + index * r.body; size = r.body })
+      read_shown =
           shown_there file index file_reads (omega (arith, read_count))
           ∙ λ i. done (record { start = sym file_size i + index * sym file_body i; size = sym file_body i })
 
       -- its body ends within the file
       pub read_inside : r.size + index * r.body + r.body ≤ length file
-      read_inside = shown_inside file index read-shown
+      read_inside = shown_inside file index read_shown
 
 -- the part of a file that is shown, by its two ends
 pub part_between :
@@ -396,17 +396,17 @@ module _
     (h : r ≡ contents_of (read_used buffer used)) (e : r.answer ≡ checks.Fine)
   where
     -- the used length is within the buffer
-    pub adds-within : used ≤ length buffer
-    adds-within = (used_told buffer used (told_read (read_used buffer used) r h e).reads).0
+    pub adds_within : used ≤ length buffer
+    adds_within = (used_told buffer used (told_read (read_used buffer used) r h e).reads).0
 
     -- the list, packed under the images that the code has read, into what follows the used length
-    abbrev packed-behind : Answer (List ℕ)
-    packed-behind = packing_under (image_list r.images) ns (length (part_behind buffer used))
+    abbrev packed_behind : Answer (List ℕ)
+    packed_behind = packing_under (image_list r.images) ns (length (part_behind buffer used))
 
     -- this is what is added
-    adds-under : packed-behind ≡ added buffer used ns
+    adds_under : packed_behind ≡ added buffer used ns
     unfolding packing_under
-    adds-under =
+    adds_under =
         let t = told_read (read_used buffer used) r h e in
         let contents = (file_told (take used buffer) (used_told buffer used t.reads).1).contents in
         let images : image_list r.images ≡ t.table.images =
@@ -419,39 +419,39 @@ module _
 
     module _
         {answer : Answer ℕ} {after : List ℕ}
-        (told : (answer ≡ sized packed-behind) × (after ≡ stored_in packed-behind (part_behind buffer used)))
+        (told : (answer ≡ sized packed_behind) × (after ≡ stored_in packed_behind (part_behind buffer used)))
       where
         -- the length of what is added, or the refusal
-        adds-sized : answer ≡ sized (added buffer used ns)
-        adds-sized = told.0 ∙ ap sized adds-under
+        adds_sized : answer ≡ sized (added buffer used ns)
+        adds_sized = told.0 ∙ ap sized adds_under
 
         -- the buffer with it
-        adds-put : put_behind buffer used after ≡ written_behind used (added buffer used ns) buffer
-        adds-put =
-            ap (put_behind buffer used) (told.1 ∙ ap (λ (a : Answer (List ℕ)). stored_in a (part_behind buffer used)) adds-under)
+        adds_put : put_behind buffer used after ≡ written_behind used (added buffer used ns) buffer
+        adds_put =
+            ap (put_behind buffer used) (told.1 ∙ ap (λ (a : Answer (List ℕ)). stored_in a (part_behind buffer used)) adds_under)
             ∙ behind_stored buffer used (added buffer used ns)
 
         -- it is within the buffer
-        pub adds-room : {size : ℕ} → answer ≡ done size → used + size ≤ length buffer
+        pub adds_room : {size : ℕ} → answer ≡ done size → used + size ≤ length buffer
         unfolding sized
-        adds-room {size} d = go (added buffer used ns) refl (sym adds-sized ∙ d)
+        adds_room {size} d = go (added buffer used ns) refl (sym adds_sized ∙ d)
           where
             go : (a : Answer (List ℕ)) → added buffer used ns ≡ a → sized a ≡ done size → used + size ≤ length buffer
             go (done body) q z = let same : length body ≡ size = cc in omega (arith, (added_told buffer used ns q).room)
             go (refused x y) q z = never_done z
 
         -- refused by the list or the room
-        pub adds-stopped :
+        pub adds_stopped :
             {number place : ℕ}
             → answer ≡ refused number place
             → (refused number place ≡ new_length used (added buffer used ns))
             × (put_behind buffer used after ≡ written_behind used (added buffer used ns) buffer)
-        adds-stopped d = (new_refused used (added buffer used ns) (sym d ∙ adds-sized), adds-put)
+        adds_stopped d = (new_refused used (added buffer used ns) (sym d ∙ adds_sized), adds_put)
 
         -- or added
-        pub adds-done :
+        pub adds_done :
             {size : ℕ}
             → answer ≡ done size
             → (done (used + size) ≡ new_length used (added buffer used ns))
             × (put_behind buffer used after ≡ written_behind used (added buffer used ns) buffer)
-        adds-done d = (new_length_lem used (added buffer used ns) (sym d ∙ adds-sized), adds-put)
+        adds_done d = (new_length_lem used (added buffer used ns) (sym d ∙ adds_sized), adds_put)

@@ -122,13 +122,13 @@ module _ (file body : List ℕ) (table : Table) (reads : read_file file ≡ done
 
   module _ (r : ℕ) (h : r < count) where
     -- an earlier record is shown at the same place
-    more-earlier : shown (file ++ body) r ≡ shown file r
-    more-earlier = shown_there (file ++ body) r more_reads (omega (arith, more_count)) ∙ sym (shown_there file r reads h)
+    more_earlier : shown (file ++ body) r ≡ shown file r
+    more_earlier = shown_there (file ++ body) r more_reads (omega (arith, more_count)) ∙ sym (shown_there file r reads h)
 
     -- with the same bytes
-    more-unchanged : shown_part (file ++ body) r ≡ shown_part file r
+    more_unchanged : shown_part (file ++ body) r ≡ shown_part file r
     unfolding part_of
-    more-unchanged =
+    more_unchanged =
         let size : ℕ = body_size table.images in
         let start : ℕ = table.size + r * body_size table.images in
         let inside : start + size ≤ length file = record_inside file r reads h in
@@ -167,8 +167,8 @@ grown used file body ns table size reads packs =
       numbers = back.0;
       unpacks = back.2;
       truncations = back.1;
-      earlier = more-earlier file body table reads long;
-      unchanged = more-unchanged file body table reads long;
+      earlier = more_earlier file body table reads long;
+      unchanged = more_unchanged file body table reads long;
       in_order = more_bodies file body table reads long;
     }
 

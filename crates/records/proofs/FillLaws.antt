@@ -183,10 +183,10 @@ module _ {m : Marks} (valid : ValidMarks m) (im : Image) (t : Truncated) where
   pub record Hidden (bs : List ℕ) (u n : ℕ) (r : List ℕ) : Type 0 where
     pub count : ℕ
     pub digits : List ℕ
-    pub then-shown : Bool
+    pub then_shown : Bool
     pub all : elements (digits_under im t) u n ≡ zeros count ++ digits
     pub some : 0 < n → 1 ≤ length digits
-    pub shows : marked m im t false u (bs ++ r) ≡ digit_bytes digits ++ marked m im t then-shown (u + n) r
+    pub shows : marked m im t false u (bs ++ r) ≡ digit_bytes digits ++ marked m im t then_shown (u + n) r
 
   -- so it is with # signs and commas up to the point
   pub fill_hidden : {bs : List ℕ} {n : ℕ} → Body bs n → (u : ℕ) (r : List ℕ) → u + n ≡ im.integer → Hidden bs u n r
@@ -195,7 +195,7 @@ module _ {m : Marks} (valid : ValidMarks m) (im : Image) (t : Truncated) where
       record {
         count = 0;
         digits = [];
-        then-shown = false;
+        then_shown = false;
         all = refl;
         some = λ h. absurd (omega arith);
         shows = ap (λ (k : ℕ). marked m im t false k r) (omega arith);
@@ -205,7 +205,7 @@ module _ {m : Marks} (valid : ValidMarks m) (im : Image) (t : Truncated) where
       record {
         count = rest.count;
         digits = rest.digits;
-        then-shown = rest.then-shown;
+        then_shown = rest.then_shown;
         all = rest.all;
         some = rest.some;
         shows = comma_gone false u (bs ++ r) ∙ rest.shows;
@@ -220,19 +220,19 @@ module _ {m : Marks} (valid : ValidMarks m) (im : Image) (t : Truncated) where
           record {
             count = suc rest.count;
             digits = rest.digits;
-            then-shown = rest.then-shown;
+            then_shown = rest.then_shown;
             all = λ i. nought i ∷ rest.all i;
             some = λ z. rest.some (omega arith);
             shows =
                 hash_blank u (bs ++ r) h
                 ∙ rest.shows
-                ∙ ap (λ (k : ℕ). digit_bytes rest.digits ++ marked m im t rest.then-shown k r) (omega arith);
+                ∙ ap (λ (k : ℕ). digit_bytes rest.digits ++ marked m im t rest.then_shown k r) (omega arith);
           }
       go rest false h =
           record {
             count = 0;
             digits = elements (digits_under im t) u (suc n);
-            then-shown = true;
+            then_shown = true;
             all = refl;
             some = λ z. omega arith;
             shows =

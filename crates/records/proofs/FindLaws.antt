@@ -218,43 +218,43 @@ module _ {line : List ℕ} {fields : List Field} {count place : ℕ} (r : Findin
   module _ (e : field_length (drop place line) ≡ 0 → ⊥)
       (h : hashes (scanned_image (take (field_length (drop place line)) (drop place line))) ≤ precision) where
     -- the next field of the list
-    finding-next : (take (count + 1) (line_fields line) ≡ take count (line_fields line) ++ (field_of place (drop place line) ∷ []))
+    finding_next : (take (count + 1) (line_fields line) ≡ take count (line_fields line) ++ (field_of place (drop place line) ∷ []))
         × (drop (count + 1) (line_fields line) ≡ fields_at line (place + field_length (drop place line)))
         × (count < length (line_fields line))
-    finding-next =
+    finding_next =
         take_next no_field (field_of place (drop place line)) (line_fields line) (fields_at line (place + field_length (drop place line))) count
         (r.rest ∙ fields_field line place e)
 
     -- a field is passed over, and put into the array where it has room
-    finding-field : {next : List Field} → next ≡ filled max_fields no_field (take (count + 1) (line_fields line))
+    finding_field : {next : List Field} → next ≡ filled max_fields no_field (take (count + 1) (line_fields line))
         → Finding line next (count + 1) (place + field_length (drop place line))
-    finding-field {next} k =
+    finding_field {next} k =
         let p = field_there line place e in
         record {
           few = omega (arith, r.few, e);
-          within = omega (arith, finding-next.2);
+          within = omega (arith, finding_next.2);
           inside = omega (arith, field_inside line place (omega arith));
           checks = check_field count line place e h ∙ r.checks;
-          rest = finding-next.1;
+          rest = finding_next.1;
           held = k;
         }
 
     -- it is put into the array
-    finding-put : count < max_fields
+    finding_put : count < max_fields
         → Finding line (set fields count (field_of place (drop place line))) (count + 1) (place + field_length (drop place line))
-    finding-put l =
+    finding_put l =
         let first : List Field = take count (line_fields line) in
         let size : length first ≡ count = length-take-le count (line_fields line) r.within in
-        finding-field
+        finding_field
         (ap (λ (x : List Field). set x count (field_of place (drop place line))) r.held
         ∙ ap (λ (k : ℕ). set (filled max_fields no_field first) k (field_of place (drop place line))) (sym size)
         ∙ filled_set no_field max_fields first (field_of place (drop place line)) (omega arith)
-        ∙ ap (filled max_fields no_field) (sym finding-next.0))
+        ∙ ap (filled max_fields no_field) (sym finding_next.0))
 
     -- the array is full
-    finding-full : max_fields ≤ count → Finding line fields (count + 1) (place + field_length (drop place line))
-    finding-full l =
-        finding-field
+    finding_full : max_fields ≤ count → Finding line fields (count + 1) (place + field_length (drop place line))
+    finding_full l =
+        finding_field
         (r.held
         ∙ filled_full no_field max_fields count (line_fields line) l
         ∙ sym (filled_full no_field max_fields (count + 1) (line_fields line) (omega arith)))
@@ -271,8 +271,8 @@ finding_turn {line} {fields} {next} {count} {place} size r n e h w =
     let same : place + field_length (drop place line) ≡ place + size = omega arith in
     subst (Finding line next (count + 1)) same
     (⊎_elim
-    (λ p. subst (λ (l : List Field). Finding line l (count + 1) (place + field_length (drop place line))) (sym p.1) (finding-put r some h p.0))
-    (λ p. subst (λ (l : List Field). Finding line l (count + 1) (place + field_length (drop place line))) (sym p.1) (finding-full r some h p.0))
+    (λ p. subst (λ (l : List Field). Finding line l (count + 1) (place + field_length (drop place line))) (sym p.1) (finding_put r some h p.0))
+    (λ p. subst (λ (l : List Field). Finding line l (count + 1) (place + field_length (drop place line))) (sym p.1) (finding_full r some h p.0))
     w)
 
 -- a line is refused for a field

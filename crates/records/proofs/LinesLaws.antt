@@ -358,8 +358,8 @@ module _ {file : List ℕ} {table : Table} {place : ℕ} (c : Checking file tabl
     ahead = bodies_ahead file size place c.left c.reaches l
 
     -- it ends within the file
-    pub checking-inside : place + size ≤ length file
-    checking-inside = ahead.inside
+    pub checking_inside : place + size ≤ length file
+    checking_inside = ahead.inside
 
     -- the body, and those behind it
     abbrev body : List ℕ
@@ -369,33 +369,33 @@ module _ {file : List ℕ} {table : Table} {place : ℕ} (c : Checking file tabl
     behind = bodies_behind file size place ahead.others
 
     -- what they say
-    checking-rest : checked_file file ≡ (record_lines table.images (body ∷ behind) then λ lines. done table)
-    checking-rest =
+    checking_rest : checked_file file ≡ (record_lines table.images (body ∷ behind) then λ lines. done table)
+    checking_rest =
         c.rest
         ∙ ap (λ (bs : List (List ℕ)). record_lines table.images bs then λ lines. done table) (bodies_next file size place c.left ahead)
 
     -- the body is refused
-    pub checking-stops : {x y : ℕ} → unpack_body table.images body ≡ refused x y → checked_file file ≡ refused x y
+    pub checking_stops : {x y : ℕ} → unpack_body table.images body ≡ refused x y → checked_file file ≡ refused x y
     unfolding ◌then◌
-    checking-stops h =
-        checking-rest ∙ ap (λ (a : Answer (List ℕ)). a then λ lines. done table) (lines_refused table.images body behind h)
+    checking_stops h =
+        checking_rest ∙ ap (λ (a : Answer (List ℕ)). a then λ lines. done table) (lines_refused table.images body behind h)
 
     -- it is read
-    pub checking-turns :
+    pub checking_turns :
         {ns : List Number}
         → AllChecked table.images
         → unpack_body table.images body ≡ done ns
         → {then-place : ℕ}
         → then-place ≡ place + size
         → Checking file table then-place
-    checking-turns all h e =
+    checking_turns all h e =
         let texts = unpacked_texts all body h in
         subst (λ (k : ℕ). Checking file table k) (sym e)
         (record {
           left = ahead.others;
           reaches = ahead.reaches;
           rest =
-              checking-rest
+              checking_rest
               ∙ ap (λ (a : Answer (List ℕ)). a then λ lines. done table) (lines_next table.images body behind h texts.1)
               ∙ then_added (record_lines table.images behind) (λ (lines : List ℕ). record_line texts.0 ++ lines) table;
         })
@@ -453,72 +453,72 @@ module _
 
   module _ (l : place < length file) where
     -- one body is left at least
-    pub lining-ahead : Ahead file (body_size table.images) place w.left
-    lining-ahead = bodies_ahead file (body_size table.images) place w.left w.reaches l
+    pub lining_ahead : Ahead file (body_size table.images) place w.left
+    lining_ahead = bodies_ahead file (body_size table.images) place w.left w.reaches l
 
     -- it ends within the file
-    pub lining-inside : place + body_size table.images ≤ length file
-    lining-inside = lining-ahead.inside
+    pub lining_inside : place + body_size table.images ≤ length file
+    lining_inside = lining_ahead.inside
 
     -- it is read, and its texts exist
     pub lining_step :
         LinesStep table.images (body_at file (body_size table.images) place)
-        (bodies_behind file (body_size table.images) place lining-ahead.others) w.after
+        (bodies_behind file (body_size table.images) place lining_ahead.others) w.after
     lining_step =
         let size : ℕ = body_size table.images in
-        lines_view table.images (body_at file size place) (bodies_behind file size place lining-ahead.others)
-        (ap (record_lines table.images) (sym (bodies_next file size place w.left lining-ahead)) ∙ w.comes)
+        lines_view table.images (body_at file size place) (bodies_behind file size place lining_ahead.others)
+        (ap (record_lines table.images) (sym (bodies_next file size place w.left lining_ahead)) ∙ w.comes)
 
     -- the line of it
-    pub next-line : List ℕ
-    next-line = record_line lining_step.texts
+    pub next_line : List ℕ
+    next_line = record_line lining_step.texts
 
     -- all lines are those that are written, this one and the others
-    lining-joined : (w.before ++ next-line) ++ lining_step.others ≡ lines_of file
-    unfolding next-line
-    lining-joined =
+    lining_joined : (w.before ++ next_line) ++ lining_step.others ≡ lines_of file
+    unfolding next_line
+    lining_joined =
         append_assoc w.before (record_line lining_step.texts) lining_step.others
         ∙ ap (λ (x : List ℕ). w.before ++ x) lining_step.joined
         ∙ w.joined
 
     module _ (room : start + length (lines_of file) ≤ length buffer) where
       -- there is room for it
-      lining-fits : start + length w.before + length next-line ≤ length buffer
-      lining-fits =
+      lining_fits : start + length w.before + length next_line ≤ length buffer
+      lining_fits =
           omega (
             arith,
-            ap length lining-joined,
-            length-append (w.before ++ next-line) lining_step.others,
-            length-append w.before next-line,
+            ap length lining_joined,
+            length-append (w.before ++ next_line) lining_step.others,
+            length-append w.before next_line,
           )
 
-      pub lining-room : out + length next-line ≤ length now
-      lining-room =
-          let kept = kept_length buffer start w.before w.holds w.ends (omega (arith, w.ends, lining-fits)) in
-          omega (arith, w.ends, lining-fits)
+      pub lining_room : out + length next_line ≤ length now
+      lining_room =
+          let kept = kept_length buffer start w.before w.holds w.ends (omega (arith, w.ends, lining_fits)) in
+          omega (arith, w.ends, lining_fits)
 
       -- it is written
-      pub lining-turns :
+      pub lining_turns :
           {line : List ℕ} {then-out then-place : ℕ} {then-now : List ℕ}
-          → line ≡ next-line
+          → line ≡ next_line
           → then-out ≡ out + length line
           → then-now ≡ written now out line
           → then-place ≡ place + body_size table.images
           → Lining file table buffer start then-now then-out then-place
-      lining-turns {line} {then-out} {then-place} {then-now} same e h p =
+      lining_turns {line} {then-out} {then-place} {then-now} same e h p =
           subst (λ (k : ℕ). Lining file table buffer start then-now then-out k) (sym p)
           (record {
-            left = lining-ahead.others;
-            reaches = lining-ahead.reaches;
-            before = w.before ++ next-line;
+            left = lining_ahead.others;
+            reaches = lining_ahead.reaches;
+            before = w.before ++ next_line;
             after = lining_step.others;
             comes = lining_step.rest;
-            joined = lining-joined;
-            ends = omega (arith, e, w.ends, ap length same, length-append w.before next-line);
+            joined = lining_joined;
+            ends = omega (arith, e, w.ends, ap length same, length-append w.before next_line);
             holds =
                 h
                 ∙ ap (λ (x : List ℕ). written now out x) same
-                ∙ next_bytes buffer start w.before w.holds w.ends next-line (omega (arith, w.ends, lining-fits));
+                ∙ next_bytes buffer start w.before w.holds w.ends next_line (omega (arith, w.ends, lining_fits));
           })
 
 -- The line that the code writes is that of the body at the place.
@@ -530,7 +530,7 @@ module _
     (e : u ≡ unpacked_of (unpack_under (image_list r.images) (take r.body (drop place file)))) where
   -- the body's numbers and texts
   abbrev step : LinesStep h.table.images (body_at file (body_size h.table.images) place)
-      (bodies_behind file (body_size h.table.images) place (lining-ahead w l).others) w.after
+      (bodies_behind file (body_size h.table.images) place (lining_ahead w l).others) w.after
   step = lining_step w l
 
   -- one number for each column
@@ -561,6 +561,6 @@ module _
       }
 
   -- and so is the line
-  pub front_line : record_line (given (alpha_texts (take r.images.count r.images.values) (take r.images.count u.numbers.values))) ≡ next-line w l
-  unfolding given next-line
+  pub front_line : record_line (given (alpha_texts (take r.images.count r.images.values) (take r.images.count u.numbers.values))) ≡ next_line w l
+  unfolding given next_line
   front_line = ap (λ (a : Answer (List (List ℕ))). record_line (given a)) front_texts

@@ -30,7 +30,7 @@ use Rattle.records.specs.Listing.{
   lines_of,
 }
 use Rattle.records.proofs.WritingLaws.{next_bytes}
-use Rattle.records.proofs.ReportLaws.{count_line_length, within_none, printed-long, printed-short, printed_refused, printed_within}
+use Rattle.records.proofs.ReportLaws.{count_line_length, within_none, printed_long, printed_short, printed_refused, printed_within}
 use Rattle.records.proofs.LinesLaws.{line_some, FileListed, listed_length, ListedHeld}
 
 -- The listing of a file whose bodies can all be read.
@@ -176,14 +176,14 @@ module _ {file : List ℕ} {r : Contents} (h : ListedHeld file r) where
         numbered = records ∙ ap (λ (n : ℕ). length (decimal_text n)) records_same
 
     -- the listing is longer than the room
-    pub measured-long : longer ≡ true → listed file room ≡ refused 6 0
-    measured-long e =
+    pub measured_long : longer ≡ true → listed file room ≡ refused 6 0
+    measured_long e =
         let long = ltb-true room (18 + one + two + records_of file r * (r.size - 1)) (sym test ∙ e) in
         listed_parts room ∙ within_none room (first_line r ++ (lines_of file ++ last_line file r)) (omega (arith, measured))
 
     -- or it is not
-    pub measured-short : longer ≡ false → length (first_line r) + length (lines_of file) + length (last_line file r) ≤ room
-    measured-short e =
+    pub measured_short : longer ≡ false → length (first_line r) + length (lines_of file) + length (last_line file r) ≤ room
+    measured_short e =
         let short = ltb-false room (18 + one + two + records_of file r * (r.size - 1)) (sym test ∙ e) in
         omega (arith, measured, parts_length (first_line r) (lines_of file) (last_line file r))
 
@@ -193,19 +193,19 @@ module _ (input : List ℕ) where
   -- of a file that is too long
   pub report_long : max_file < length input → report_of input ≡ refusal_line 11 0
   unfolding report_of
-  report_long h = printed-long (listing input) (length input) h
+  report_long h = printed_long (listing input) (length input) h
 
   -- of another
   pub report_short : length input ≤ max_file → report_of input ≡ printed_of (listing input)
   unfolding report_of
-  report_short h = printed-short (listing input) (length input) h
+  report_short h = printed_short (listing input) (length input) h
 
   module _ (few : length input ≤ max_file) where
     -- a refusal
-    pub report-refused : {x y : ℕ} → checked_file input ≡ refused x y → report_of input ≡ refusal_line x y
-    report-refused h = report_short few ∙ printed_refused (listing input) (listing_refused input h)
+    pub report_refused : {x y : ℕ} → checked_file input ≡ refused x y → report_of input ≡ refusal_line x y
+    report_refused h = report_short few ∙ printed_refused (listing input) (listing_refused input h)
 
     -- or a listing, as the call gives it
-    pub report-same : {table : Table} → FileListed input table → (room : ℕ) → listed input room ≡ within room (report_of input)
+    pub report_same : {table : Table} → FileListed input table → (room : ℕ) → listed input room ≡ within room (report_of input)
     unfolding listed
-    report-same l room = printed_within (listing input) room (listing_done l) ∙ ap (within room) (sym (report_short few))
+    report_same l room = printed_within (listing input) room (listing_done l) ∙ ap (within room) (sym (report_short few))

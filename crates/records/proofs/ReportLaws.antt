@@ -35,27 +35,27 @@ module _ (word : List ℕ) (n : ℕ) where
       (room : start + length (count_line word n) ≤ length b)
       (one : first ≡ written b start word) where
     -- the buffer keeps its length
-    word-length : length first ≡ length b
-    word-length = kept_length b start word one refl (omega (arith, count_line_length))
+    word_length : length first ≡ length b
+    word_length = kept_length b start word one refl (omega (arith, count_line_length))
 
     -- there is room for the digits
-    pub count-digits-room : start + length word + length (decimal_text n) ≤ length first
-    count-digits-room = omega (arith, count_line_length, word-length)
+    pub count_digits_room : start + length word + length (decimal_text n) ≤ length first
+    count_digits_room = omega (arith, count_line_length, word_length)
 
     module _ {second : List ℕ} (two : second ≡ written first (start + length word) (decimal_text n)) where
       -- the buffer keeps its length
-      count-length : length second ≡ length b
-      count-length = kept_length first (start + length word) (decimal_text n) two refl count-digits-room ∙ word-length
+      count_length : length second ≡ length b
+      count_length = kept_length first (start + length word) (decimal_text n) two refl count_digits_room ∙ word_length
 
       module _ {end : ℕ} (ends : end ≡ start + length word + length (decimal_text n)) where
         -- there is room for 0A
-        pub count-end-room : end < length second
-        count-end-room = omega (arith, count_line_length, count-length)
+        pub count_end_room : end < length second
+        count_end_room = omega (arith, count_line_length, count_length)
 
         -- and the line is written
-        pub count-written : set second end line_end ≡ written b start (count_line word n)
+        pub count_written : set second end line_end ≡ written b start (count_line word n)
         unfolding count_line
-        count-written =
+        count_written =
             let text = decimal_text n in
             let size = count_line_length in
             let both = two ∙ next_bytes b start word one refl text (omega arith) in
@@ -104,43 +104,43 @@ module _ (number place : ℕ) where
     front = refused_word ++ decimal_text number
 
     -- are written first
-    front-written : second ≡ written b 0 front
+    front_written : second ≡ written b 0 front
     unfolding front
-    front-written = two ∙ next_bytes b 0 refused_word one refl (decimal_text number) (omega arith)
+    front_written = two ∙ next_bytes b 0 refused_word one refl (decimal_text number) (omega arith)
 
     front_length : 8 + n ≡ 0 + length front
     unfolding front
     front_length = omega arith
 
     -- then the blank
-    blank-written : set second (8 + n) blank_byte ≡ written b 0 (front ++ (blank_byte ∷ []))
-    blank-written = next_byte b 0 front front-written front_length blank_byte (omega arith)
+    blank_written : set second (8 + n) blank_byte ≡ written b 0 (front ++ (blank_byte ∷ []))
+    blank_written = next_byte b 0 front front_written front_length blank_byte (omega arith)
 
-    blank-length : 8 + n + 1 ≡ 0 + length (front ++ (blank_byte ∷ []))
-    blank-length = omega (arith, front_length, length-append front (blank_byte ∷ []))
+    blank_length : 8 + n + 1 ≡ 0 + length (front ++ (blank_byte ∷ []))
+    blank_length = omega (arith, front_length, length-append front (blank_byte ∷ []))
 
     -- there is room for the place
-    pub refusal-place-room : 8 + n + 1 + length (decimal_text place) ≤ length (set second (8 + n) blank_byte)
-    refusal-place-room = omega (arith, kept_length b 0 (front ++ (blank_byte ∷ [])) blank-written blank-length (omega arith))
+    pub refusal_place_room : 8 + n + 1 + length (decimal_text place) ≤ length (set second (8 + n) blank_byte)
+    refusal_place_room = omega (arith, kept_length b 0 (front ++ (blank_byte ∷ [])) blank_written blank_length (omega arith))
 
     module _ {fourth : List ℕ} (four : fourth ≡ written (set second (8 + n) blank_byte) (8 + n + 1) (decimal_text place)) where
       -- then the place is written
-      place-written : fourth ≡ written b 0 (front ++ (blank_byte ∷ []) ++ decimal_text place)
-      place-written = four ∙ next_bytes b 0 (front ++ (blank_byte ∷ [])) blank-written blank-length (decimal_text place) (omega arith)
+      place_written : fourth ≡ written b 0 (front ++ (blank_byte ∷ []) ++ decimal_text place)
+      place_written = four ∙ next_bytes b 0 (front ++ (blank_byte ∷ [])) blank_written blank_length (decimal_text place) (omega arith)
 
-      place-length : 8 + n + 1 + p ≡ 0 + length (front ++ (blank_byte ∷ []) ++ decimal_text place)
-      place-length = omega (arith, blank-length, length-append (front ++ (blank_byte ∷ [])) (decimal_text place))
+      place_length : 8 + n + 1 + p ≡ 0 + length (front ++ (blank_byte ∷ []) ++ decimal_text place)
+      place_length = omega (arith, blank_length, length-append (front ++ (blank_byte ∷ [])) (decimal_text place))
 
       -- there is room for 0A
-      pub refusal-end-room : 8 + n + 1 + p < length fourth
-      refusal-end-room =
-          omega (arith, kept_length b 0 (front ++ (blank_byte ∷ []) ++ decimal_text place) place-written place-length (omega arith))
+      pub refusal_end_room : 8 + n + 1 + p < length fourth
+      refusal_end_room =
+          omega (arith, kept_length b 0 (front ++ (blank_byte ∷ []) ++ decimal_text place) place_written place_length (omega arith))
 
       -- and the line is written
-      pub refusal-written : set fourth (8 + n + 1 + p) line_end ≡ written b 0 (refusal_line number place)
+      pub refusal_written : set fourth (8 + n + 1 + p) line_end ≡ written b 0 (refusal_line number place)
       unfolding front
-      refusal-written =
-          next_byte b 0 (front ++ (blank_byte ∷ []) ++ decimal_text place) place-written place-length line_end room
+      refusal_written =
+          next_byte b 0 (front ++ (blank_byte ∷ []) ++ decimal_text place) place_written place_length line_end room
           ∙ ap (written b 0) refusal_parts
 
 -- document 01's lines
@@ -186,13 +186,13 @@ module _ (a : Answer (List ℕ)) where
 
   module _ (size : ℕ) where
     -- of an input that is too long, the line of its refusal
-    pub printed-long : max_file < size → printed_of (pick (ltb max_file size) (refused 11 0) a) ≡ refusal_line 11 0
+    pub printed_long : max_file < size → printed_of (pick (ltb max_file size) (refused 11 0) a) ≡ refusal_line 11 0
     unfolding printed_of
-    printed-long h = ap (λ (t : Bool). printed_of (pick t (refused 11 0) a)) (lt-ltb max_file size h)
+    printed_long h = ap (λ (t : Bool). printed_of (pick t (refused 11 0) a)) (lt-ltb max_file size h)
 
     -- of another, what is printed of its own answer
-    pub printed-short : size ≤ max_file → printed_of (pick (ltb max_file size) (refused 11 0) a) ≡ printed_of a
-    printed-short h = ap (λ (t : Bool). printed_of (pick t (refused 11 0) a)) (le-ltb max_file size h)
+    pub printed_short : size ≤ max_file → printed_of (pick (ltb max_file size) (refused 11 0) a) ≡ printed_of a
+    printed_short h = ap (λ (t : Bool). printed_of (pick t (refused 11 0) a)) (le-ltb max_file size h)
 
   -- bytes into a buffer with so much room: as the call that gives them
   pub printed_within : (room : ℕ) {bytes : List ℕ} → a ≡ done bytes → (a then within room) ≡ within room (printed_of a)

@@ -30,8 +30,8 @@ use Rattle.rolls.specs.Searching.{max_positions, keys_of, keys_in, Search, found
 use Rattle.rolls.specs.Finding.{Finds, HasKey, Askable}
 use Rattle.rolls.proofs.FallTheorem.{fall_exactly}
 use Rattle.rolls.proofs.FindTheorem.{finds}
-use Rattle.rolls.proofs.PageLaws.{all_normal, page-fine}
-use Rattle.rolls.proofs.SearchLaws.{page_taken, search-done}
+use Rattle.rolls.proofs.PageLaws.{all_normal, page_fine}
+use Rattle.rolls.proofs.SearchLaws.{page_taken, search_done}
 
 -- The parts.
 
@@ -139,8 +139,8 @@ asked file ps {s} h =
 -- what is given, where all that is asked holds
 answered : {file : List ℕ} {ps keys : List Number} → Askable file ps keys → searching file ps ≡ done (found ps keys)
 answered {file} {ps} {keys} a =
-    search-done file ps a.reads a.page a.bodies
-    (page-fine a.table.images ps (fall keys) (normals_said 0 ps a.normals) (kind_said (get_or a.table.images 0 no_image) a.kind)
+    search_done file ps a.reads a.page a.bodies
+    (page_fine a.table.images ps (fall keys) (normals_said 0 ps a.normals) (kind_said (get_or a.table.images 0 no_image) a.kind)
     ((fall_exactly ps).1 a.positions) ((fall_exactly keys).1 a.in_order))
 
 -- Published: positions are looked for exactly where all that is asked holds.

@@ -105,8 +105,8 @@ module _ {file : List ℕ} {table : Table} {place : ℕ} {ks : List Number} (c :
     ahead = bodies_ahead file size place c.left c.reaches l
 
     -- it ends within the file
-    pub keying-inside : place + size ≤ length file
-    keying-inside = ahead.inside
+    pub keying_inside : place + size ≤ length file
+    keying_inside = ahead.inside
 
     -- the body, and those behind it
     abbrev body : List ℕ
@@ -116,32 +116,32 @@ module _ {file : List ℕ} {table : Table} {place : ℕ} {ks : List Number} (c :
     behind = bodies_behind file size place ahead.others
 
     -- what they say
-    keying-rest : keys_in table file ≡ (keys_of table.images (body ∷ behind) then λ keys. done (ks ++ keys))
-    keying-rest =
+    keying_rest : keys_in table file ≡ (keys_of table.images (body ∷ behind) then λ keys. done (ks ++ keys))
+    keying_rest =
         c.rest
         ∙ ap (λ (bs : List (List ℕ)). keys_of table.images bs then λ keys. done (ks ++ keys)) (bodies_next file size place c.left ahead)
 
     -- the body is refused
-    pub keying-stops : {x y : ℕ} → unpack_body table.images body ≡ refused x y → keys_in table file ≡ refused x y
+    pub keying_stops : {x y : ℕ} → unpack_body table.images body ≡ refused x y → keys_in table file ≡ refused x y
     unfolding ◌then◌
-    keying-stops h =
-        keying-rest ∙ ap (λ (a : Answer (List Number)). a then λ keys. done (ks ++ keys)) (keys_refused table.images body behind h)
+    keying_stops h =
+        keying_rest ∙ ap (λ (a : Answer (List Number)). a then λ keys. done (ks ++ keys)) (keys_refused table.images body behind h)
 
     -- it is read
-    pub keying-turns :
+    pub keying_turns :
         {ns : List Number} {key : Number} {then-place : ℕ}
         → unpack_body table.images body ≡ done ns
         → key ≡ get_or ns 0 zero_number
         → then-place ≡ place + size
         → Keying file table then-place (ks ++ key ∷ [])
-    keying-turns {ns} {key} h k e =
+    keying_turns {ns} {key} h k e =
         subst (λ (x : ℕ). Keying file table x (ks ++ key ∷ [])) (sym e)
         (subst (λ (x : Number). Keying file table (place + size) (ks ++ x ∷ [])) (sym k)
         (record {
           left = ahead.others;
           reaches = ahead.reaches;
           rest =
-              keying-rest
+              keying_rest
               ∙ ap (λ (a : Answer (List Number)). a then λ keys. done (ks ++ keys)) (keys_next table.images body behind h)
               ∙ then_joined (keys_of table.images behind) (get_or ns 0 zero_number) ks;
         }))

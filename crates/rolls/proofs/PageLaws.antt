@@ -60,25 +60,25 @@ module _ (ps : List Number) where
 
   module _ {index : ℕ} (c : Checking index) (more : index < length ps) where
     -- with one more
-    checking-step : check_numbers 0 ps ≡ (check_number index (get_or ps index zero_number) then λ _. check_numbers (suc index) (drop (suc index) ps))
+    checking_step : check_numbers 0 ps ≡ (check_number index (get_or ps index zero_number) then λ _. check_numbers (suc index) (drop (suc index) ps))
     unfolding check_numbers
-    checking-step = c.rest ∙ ap (check_numbers index) (drop-cons ps index zero_number more)
+    checking_step = c.rest ∙ ap (check_numbers index) (drop-cons ps index zero_number more)
 
-    pub checking-turns : normal (get_or ps index zero_number) ≡ true → Checking (index + 1)
+    pub checking_turns : normal (get_or ps index zero_number) ≡ true → Checking (index + 1)
     unfolding ◌then◌
-    checking-turns h =
+    checking_turns h =
         let one : suc index ≡ index + 1 = omega arith in
         subst Checking one
         (record {
           rest =
-              checking-step
+              checking_step
               ∙ ap (λ (a : Answer Number). a then λ _. check_numbers (suc index) (drop (suc index) ps)) (check_normal (get_or ps index zero_number) index h);
         })
 
-    pub checking-stops : normal (get_or ps index zero_number) ≡ false → check_numbers 0 ps ≡ refused 3 index
+    pub checking_stops : normal (get_or ps index zero_number) ≡ false → check_numbers 0 ps ≡ refused 3 index
     unfolding ◌then◌
-    checking-stops h =
-        checking-step
+    checking_stops h =
+        checking_step
         ∙ ap (λ (a : Answer Number). a then λ _. check_numbers (suc index) (drop (suc index) ps)) (check_abnormal (get_or ps index zero_number) index h)
 
 -- all that are looked through are in normal form
@@ -114,8 +114,8 @@ module _ (ps : List Number) where
 
   module _ {index : ℕ} {last : Number} (r : Rising index last) (more : index < length ps) where
     -- one that is not below the last
-    pub rising-turns : false ≡ (ltb 0 index && not (at_most last (get_or ps index zero_number))) → Rising (index + 1) (get_or ps index zero_number)
-    rising-turns h =
+    pub rising_turns : false ≡ (ltb 0 index && not (at_most last (get_or ps index zero_number))) → Rising (index + 1) (get_or ps index zero_number)
+    rising_turns h =
         let number : Number = get_or ps index zero_number in
         let one : suc index ≡ index + 1 = omega arith in
         record {
@@ -126,8 +126,8 @@ module _ (ps : List Number) where
         }
 
     -- one that is
-    pub rising-stops : true ≡ (ltb 0 index && not (at_most last (get_or ps index zero_number))) → true ≡ fall ps
-    rising-stops h =
+    pub rising_stops : true ≡ (ltb 0 index && not (at_most last (get_or ps index zero_number))) → true ≡ fall ps
+    rising_stops h =
         sym
         (ap fall (split_at ps index zero_number more)
         ∙ fallen_found r.so_far (get_or ps index zero_number) (drop (suc index) ps) h)
@@ -142,22 +142,22 @@ module _ (ims : List Image) (ps : List Number) (falls : Bool) where
 
   module _ (normals : check_numbers 0 ps ≡ done tt) where
     -- 16
-    pub page-kind : is_unsigned_fixed (get_or ims 0 no_image) ≡ false → check_page ims ps falls ≡ refused 16 0
+    pub page_kind : is_unsigned_fixed (get_or ims 0 no_image) ≡ false → check_page ims ps falls ≡ refused 16 0
     unfolding check_page check_kind ◌then◌
-    page-kind k = rw (normals, k)
+    page_kind k = rw (normals, k)
 
     module _ (kind : is_unsigned_fixed (get_or ims 0 no_image) ≡ true) where
       -- 14
-      pub page-positions : fall ps ≡ true → check_page ims ps falls ≡ refused 14 0
+      pub page_positions : fall ps ≡ true → check_page ims ps falls ≡ refused 14 0
       unfolding check_page check_kind refuse_where ◌then◌
-      page-positions f = rw (normals, kind, f)
+      page_positions f = rw (normals, kind, f)
 
       -- 15
-      pub page-records : fall ps ≡ false → falls ≡ true → check_page ims ps falls ≡ refused 15 0
+      pub page_records : fall ps ≡ false → falls ≡ true → check_page ims ps falls ≡ refused 15 0
       unfolding check_page check_kind refuse_where ◌then◌
-      page-records f r = rw (normals, kind, f, r)
+      page_records f r = rw (normals, kind, f, r)
 
       -- nothing
-      pub page-fine : fall ps ≡ false → falls ≡ false → check_page ims ps falls ≡ done tt
+      pub page_fine : fall ps ≡ false → falls ≡ false → check_page ims ps falls ≡ done tt
       unfolding check_page check_kind refuse_where ◌then◌
-      page-fine f r = rw (normals, kind, f, r)
+      page_fine f r = rw (normals, kind, f, r)

@@ -23,7 +23,7 @@ use Rattle.rolls.specs.declared.searching.Walked.{Walked}
 use Rattle.rolls.specs.Falling.{at_most, fall}
 use Rattle.rolls.specs.Searching.{max_positions, keys_in, walk, check_numbers, Walks}
 use Rattle.rolls.proofs.FallLaws.{Fallen, fallen_starts, fallen_turns}
-use Rattle.rolls.proofs.KeyLaws.{Keying, keying_starts, keying-turns}
+use Rattle.rolls.proofs.KeyLaws.{Keying, keying_starts, keying_turns}
 use Rattle.rolls.proofs.WalkLaws.{Walking, walking_starts}
 
 -- what the pass has behind a record
@@ -69,7 +69,7 @@ module _ {file : List ℕ} {table : Table} {ps : List Number} {records : List �
   passing_turns {after} {compared} {then_next} {fell} f w e =
       record {
         keys = p.keys ++ number ∷ [];
-        reads = keying-turns p.reads l h k e;
+        reads = keying_turns p.reads l h k e;
         fallen =
             subst (λ (b : Bool). Fallen (p.keys ++ number ∷ []) b number fell) (sym (lt-ltb 0 (r + 1) (omega arith)))
             (fallen_turns p.fallen number f);

@@ -50,26 +50,26 @@ module _ (file : List ℕ) (ps : List Number) where
 
   module _ {table : Table} (reads : read_file file ≡ done table) where
     -- 10
-    pub search-many : max_positions < length ps → searching file ps ≡ refused 10 0
+    pub search_many : max_positions < length ps → searching file ps ≡ refused 10 0
     unfolding searching check_count ◌then◌
-    search-many l = rw (reads, lt-leb (length ps) max_positions l)
+    search_many l = rw (reads, lt-leb (length ps) max_positions l)
 
     module _ (page : length ps ≤ max_positions) where
       -- 7
-      pub search-bad : {x y : ℕ} → keys_in table file ≡ refused x y → searching file ps ≡ refused x y
+      pub search_bad : {x y : ℕ} → keys_in table file ≡ refused x y → searching file ps ≡ refused x y
       unfolding searching check_count ◌then◌
-      search-bad h = rw (reads, le-leb (length ps) max_positions page, h)
+      search_bad h = rw (reads, le-leb (length ps) max_positions page, h)
 
       module _ {keys : List Number} (h : keys_in table file ≡ done keys) where
         -- 3, 16, 14, 15
-        pub search-page : {x y : ℕ} → check_page table.images ps (fall keys) ≡ refused x y → searching file ps ≡ refused x y
+        pub search_page : {x y : ℕ} → check_page table.images ps (fall keys) ≡ refused x y → searching file ps ≡ refused x y
         unfolding searching check_count ◌then◌
-        search-page p = rw (reads, le-leb (length ps) max_positions page, h, p)
+        search_page p = rw (reads, le-leb (length ps) max_positions page, h, p)
 
         -- nothing
-        pub search-done : check_page table.images ps (fall keys) ≡ done tt → searching file ps ≡ done (found ps keys)
+        pub search_done : check_page table.images ps (fall keys) ≡ done tt → searching file ps ≡ done (found ps keys)
         unfolding searching check_count ◌then◌
-        search-done p = rw (reads, le-leb (length ps) max_positions page, h, p)
+        search_done p = rw (reads, le-leb (length ps) max_positions page, h, p)
 
 -- the code's answer where nothing refuses: what the walk gives
 pub found_walked :

@@ -100,18 +100,18 @@ module _ {ps ks : List Number} {k : Number} {next r comparisons : ℕ} {records 
     position = get_or ps next zero_number
 
     -- it and the others
-    positions-left : drop next ps ≡ position ∷ drop (suc next) ps
-    positions-left = drop-cons ps next zero_number more
+    positions_left : drop next ps ≡ position ∷ drop (suc next) ps
+    positions_left = drop-cons ps next zero_number more
 
     -- the record is at least as large: it is the position's
-    pub walking-turns :
+    pub walking_turns :
         (few : next < max_positions) → at_most position k ≡ true → Walking ps ks (k ∷ []) (next + 1) r (comparisons + 1) (set records next r)
     unfolding giving comparing
-    walking-turns few h =
+    walking_turns few h =
         let one : suc next ≡ next + 1 = omega arith in
         let step : (others : List Number) → walk r (drop next ps) (k ∷ others) ≡ comparing (giving r (walk r (drop (next + 1) ps) (k ∷ others))) =
         λ others.
-        ap (λ (l : List Number). walk r l (k ∷ others)) positions-left
+        ap (λ (l : List Number). walk r l (k ∷ others)) positions_left
         ∙ walk_reached r position (drop (suc next) ps) k others h
         ∙ ap (λ (i : ℕ). comparing (giving r (walk r (drop i ps) (k ∷ others)))) one in
         record {
@@ -129,15 +129,15 @@ module _ {ps ks : List Number} {k : Number} {next r comparisons : ℕ} {records 
         }
 
     -- else the next record
-    pub walking-passes : at_most position k ≡ false → Walking ps (ks ++ k ∷ []) [] next (r + 1) (comparisons + 1) records
+    pub walking_passes : at_most position k ≡ false → Walking ps (ks ++ k ∷ []) [] next (r + 1) (comparisons + 1) records
     unfolding comparing
-    walking-passes h =
+    walking_passes h =
         let one : suc r ≡ r + 1 = omega arith in
         let step : (others : List Number) → walk r (drop next ps) (k ∷ others) ≡ comparing (walk (r + 1) (drop next ps) others) =
         λ others.
-        ap (λ (l : List Number). walk r l (k ∷ others)) positions-left
+        ap (λ (l : List Number). walk r l (k ∷ others)) positions_left
         ∙ walk_passed r position (drop (suc next) ps) k others h
-        ∙ ap (λ (l : List Number). comparing (walk (suc r) l others)) (sym positions-left)
+        ∙ ap (λ (l : List Number). comparing (walk (suc r) l others)) (sym positions_left)
         ∙ ap (λ (i : ℕ). comparing (walk i (drop next ps) others)) one in
         record {
           given = w.given;

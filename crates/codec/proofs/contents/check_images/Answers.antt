@@ -8,7 +8,7 @@ use lib.ListN.{length, take, drop, length-map}
 use Rattle.decimal.specs.Image.{image_meaning}
 use Rattle.codec.specs.Lists.{max_columns, no_image, image_list}
 use Rattle.codec.specs.Contents.{check_each, check_images}
-use Rattle.codec.proofs.UnderLaws.{count_none, count_many, count-each, each_turn, each-refused, each-end}
+use Rattle.codec.proofs.UnderLaws.{count_none, count_many, count_each, each_turn, each_refused, each_end}
 use Rattle.codec.proofs.contents.check_images.Goals as goal
 
 pub returns-then-count-lt1 : goal.returns-then-count-lt1
@@ -21,7 +21,7 @@ pub loop-column-init : goal.loop-column-init
 loop-column-init c =
     let a = c.args in
     let many : length a.images.values ≡ max_columns = omega arith in
-    (omega arith, count-each a.images (omega arith) (omega arith) (omega arith))
+    (omega arith, count_each a.images (omega arith) (omega arith) (omega arith))
 
 pub returns-in-Refused : goal.returns-in-Refused
 returns-in-Refused c =
@@ -31,7 +31,7 @@ returns-in-Refused c =
     let many : length a.images.values ≡ max_columns = omega arith in
     let refused = sym c.checked.ensures ∙ ap image_meaning c.in-Refused.is in
     sym
-    (l.loop-column.invariant.1 ∙ each-refused a.images (omega arith) l.loop-column.column no_image (omega arith) refused)
+    (l.loop-column.invariant.1 ∙ each_refused a.images (omega arith) l.loop-column.column no_image (omega arith) refused)
 
 pub loop-column-preserved : goal.loop-column-preserved
 loop-column-preserved c =
@@ -48,4 +48,4 @@ returns c =
     let s = l in
     let a = s.args in
     let many : length a.images.values ≡ max_columns = omega arith in
-    sym (l.loop-column.invariant.1 ∙ each-end a.images (omega arith) l.loop-column.column (omega arith))
+    sym (l.loop-column.invariant.1 ∙ each_end a.images (omega arith) l.loop-column.column (omega arith))

@@ -8,7 +8,7 @@ use lib.ListN.{length, take, drop, length-map}
 use Rattle.decimal.specs.Image.{image_meaning}
 use Rattle.codec.specs.Lists.{max_columns, no_image, image_list}
 use Rattle.codec.specs.Contents.{check_each, check_images}
-use Rattle.codec.proofs.UnderLaws.{count_none, count_many, count-each, each_turn, each-refused, each-end}
+use Rattle.codec.proofs.UnderLaws.{count_none, count_many, count_each, each_turn, each_refused, each_end}
 use Rattle.codec.proofs.contents.check_images.Given as goal
 
 abbrev pub invariant-loop-column : goal.invariant-loop-column

@@ -2,20 +2,20 @@
 use mathlib.Core.Path.{ap, sym, ◌∙◌}
 use native.Mathlib.Omega.{arith}
 use Rattle.codec.specs.Contents.{contents_of}
-use Rattle.codec.proofs.ContentsLaws.{alone-stops, alone-whole, alone-long}
+use Rattle.codec.proofs.ContentsLaws.{alone_stops, alone_whole, alone_long}
 use borrow.Author.Rules.{rules}
 use Rattle.codec.proofs.contents.read_alone.Goals as goal
 
 pub returns-in-Refused : goal.returns-in-Refused
 returns-in-Refused c =
     let f = c in
-    alone-stops f.args.bytes.now f.read_contents-contents.result f.read_contents-contents.ensures _ c.in-Refused.is
+    alone_stops f.args.bytes.now f.read_contents-contents.result f.read_contents-contents.ensures _ c.in-Refused.is
 
 pub returns-then-contents-bytes : goal.returns-then-contents-bytes
 returns-then-contents-bytes c =
     let t = c in
     let f = t in
-    alone-whole f.args.bytes.now f.read_contents-contents.result f.read_contents-contents.ensures t.in-Fine.is (omega arith)
+    alone_whole f.args.bytes.now f.read_contents-contents.result f.read_contents-contents.ensures t.in-Fine.is (omega arith)
 
 pub returns-else-contents-bytes : goal.returns-else-contents-bytes
 returns-else-contents-bytes c =
@@ -24,5 +24,5 @@ returns-else-contents-bytes c =
     c.refused.ensures
     ∙ sym
     (ap contents_of
-    (alone-long f.args.bytes.now f.read_contents-contents.result f.read_contents-contents.ensures t.in-Fine.is
+    (alone_long f.args.bytes.now f.read_contents-contents.result f.read_contents-contents.ensures t.in-Fine.is
     (λ e. omega arith)))

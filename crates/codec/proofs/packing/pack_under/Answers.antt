@@ -36,9 +36,9 @@ use Rattle.codec.proofs.BodyLaws.{
   columns_kept,
   columns_place,
   under_images,
-  under-length,
-  under-columns,
-  under-room,
+  under_length,
+  under_columns,
+  under_room,
   under_done,
   list_length,
   list_front,
@@ -94,25 +94,25 @@ module _ (images : Images) (numbers : Numbers) (array : length images.values ≡
   list_refused :
       (room : ℕ) {x y : ℕ} → checked_only (pack_columns 0 ims ns) ≡ refused x y → packing_under (image_list images) (list_of numbers) room ≡ refused x y
   list_refused room h =
-      under-columns (image_list images) (list_of numbers) room good counted (sym columns ∙ checked_refused (pack_columns 0 ims ns) h)
+      under_columns (image_list images) (list_of numbers) room good counted (sym columns ∙ checked_refused (pack_columns 0 ims ns) h)
 
   module _ (packs : AllPack ims ns) {size : ℕ} (measured : size ≡ body_size (image_list images)) where
     -- the body
-    body-packed : pack_columns 0 (image_list images) (list_of numbers) ≡ done (bytes_of ims ns)
-    body-packed = sym columns ∙ packs_columns 0 packs
+    body_packed : pack_columns 0 (image_list images) (list_of numbers) ≡ done (bytes_of ims ns)
+    body_packed = sym columns ∙ packs_columns 0 packs
 
     -- its length is the one that the code has
-    body-length : length (bytes_of ims ns) ≡ size
-    body-length = bytes_length ims ns both_long ∙ sym (measured ∙ ap body_size ready.listed)
+    body_length : length (bytes_of ims ns) ≡ size
+    body_length = bytes_length ims ns both_long ∙ sym (measured ∙ ap body_size ready.listed)
 
     -- so the columns have room where it has
-    columns-room : {room : ℕ} → size ≤ room → body_size ims ≤ room
-    columns-room h = omega (arith, measured, ap body_size ready.listed)
+    columns_room : {room : ℕ} → size ≤ room → body_size ims ≤ room
+    columns_room h = omega (arith, measured, ap body_size ready.listed)
 
     -- 6 where there is no room
     no_room : (room : ℕ) → room < size → packing_under (image_list images) (list_of numbers) room ≡ refused 6 0
     no_room room h =
-        under-room (image_list images) (list_of numbers) room good counted body-packed (omega (arith, body-length))
+        under_room (image_list images) (list_of numbers) room good counted body_packed (omega (arith, body_length))
 
     -- else the body is written
     writes :
@@ -123,8 +123,8 @@ module _ (images : Images) (numbers : Numbers) (array : length images.values ≡
         × (after ≡ stored_in (packing_under (image_list images) (list_of numbers) (length buffer)) buffer)
     unfolding sized
     writes buffer {after} room h =
-        let packed = under_done (image_list images) (list_of numbers) (length buffer) good counted body-packed (omega (arith, body-length)) in (
-          ap {B = Answer ℕ} done (sym body-length) ∙ sym (ap sized packed),
+        let packed = under_done (image_list images) (list_of numbers) (length buffer) good counted body_packed (omega (arith, body_length)) in (
+          ap {B = Answer ℕ} done (sym body_length) ∙ sym (ap sized packed),
           h ∙ written_stored buffer (bytes_of ims ns) ∙ ap (λ (k : Answer (List ℕ)). stored_in k buffer) (sym packed),
         )
 
@@ -143,7 +143,7 @@ returns-then-numbers-count c =
     let a = s.args in
     let good = sym k.check_images.ensures ∙ ap check_meaning t.in_default.is in
     let all = refuses (image_list a.images) (list_of a.numbers) a.buffer.now c.not_written.ensures
-    (under-length (image_list a.images) (list_of a.numbers) (length a.buffer.now) good
+    (under_length (image_list a.images) (list_of a.numbers) (length a.buffer.now) good
     (λ e. c.if-numbers-count.true (sym (list_length a.numbers) ∙ e ∙ image_count a.images))) in record { answer = all.0; bytes = all.1; }
 
 pub loop-checked-init : goal.loop-checked-init
@@ -237,7 +237,7 @@ loop-column-init c =
       i.2,
       i.3,
       packs,
-      columns-room a.images a.numbers i.2 good e.if-numbers-count.false i.3 packs z.body_size-size.ensures c.if-buffer-size.false,
+      columns_room a.images a.numbers i.2 good e.if-numbers-count.false i.3 packs z.body_size-size.ensures c.if-buffer-size.false,
       omega (arith, (checks_checked (image_list a.images) good).low, image_count a.images),
     )
 

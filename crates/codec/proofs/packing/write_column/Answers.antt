@@ -5,14 +5,14 @@ use native.Mathlib.Omega.{arith}
 use borrow.Author.Rules.{rules}
 use Rattle.decimal.specs.Image.{hashes}
 use Rattle.codec.specs.Columns.{sign_count}
-use Rattle.codec.proofs.FitLaws.{truncation-held}
-use Rattle.codec.proofs.ColumnLaws.{sign_few, front_room, size_kind, run_held, size_held, wrote-even, wrote-even-fixed, wrote-odd, wrote-odd-fixed}
+use Rattle.codec.proofs.FitLaws.{truncation_held}
+use Rattle.codec.proofs.ColumnLaws.{sign_few, front_room, size_kind, run_held, size_held, wrote_even, wrote_even_fixed, wrote_odd, wrote_odd_fixed}
 use Rattle.codec.proofs.packing.write_column.Goals as goal
 
 pub column_run-run-requires : goal.column_run-run-requires
 column_run-run-requires c =
     let s = c in
-    truncation-held s.args.image s.args.number s.requires.0 c.truncate-truncation.result c.truncate-truncation.ensures
+    truncation_held s.args.image s.args.number s.requires.0 c.truncate-truncation.result c.truncate-truncation.ensures
 
 pub overflow_add-count : goal.overflow_add-count
 overflow_add-count c =
@@ -23,7 +23,7 @@ pub exponent_size-size-requires : goal.exponent_size-size-requires
 exponent_size-size-requires c =
     let t = c in
     let s = t in
-    (truncation-held s.args.image s.args.number s.requires.0 t.truncate-truncation.result t.truncate-truncation.ensures).range
+    (truncation_held s.args.image s.args.number s.requires.0 t.truncate-truncation.result t.truncate-truncation.ensures).range
 
 pub write_run-requires : goal.write_run-requires
 write_run-requires c =
@@ -95,7 +95,7 @@ returns-then-image c =
     let s = t in
     let a = s.args in
     let fit = s.requires.0 in
-    wrote-even a.image a.number fit
+    wrote_even a.image a.number fit
     (run_held a.image a.number fit t.truncate-truncation.result t.truncate-truncation.ensures r.column_run-run.ensures)
     (size_held a.image a.number fit t.truncate-truncation.result t.truncate-truncation.ensures x.exponent_size-size.ensures)
     a.buffer.now a.at ((h.sign_count.result + h.hash_count.result) / 2) s.requires.1
@@ -113,7 +113,7 @@ returns-else-image c =
     let s = t in
     let a = s.args in
     let fit = s.requires.0 in
-    wrote-even-fixed a.image a.number fit
+    wrote_even_fixed a.image a.number fit
     (run_held a.image a.number fit t.truncate-truncation.result t.truncate-truncation.ensures r.column_run-run.ensures)
     (size_held a.image a.number fit t.truncate-truncation.result t.truncate-truncation.ensures x.exponent_size-size.ensures)
     a.buffer.now a.at ((h.sign_count.result + h.hash_count.result) / 2) s.requires.1
@@ -131,7 +131,7 @@ returns-then-image-2 c =
     let s = t in
     let a = s.args in
     let fit = s.requires.0 in
-    wrote-odd a.image a.number fit
+    wrote_odd a.image a.number fit
     (run_held a.image a.number fit t.truncate-truncation.result t.truncate-truncation.ensures r.column_run-run.ensures)
     (size_held a.image a.number fit t.truncate-truncation.result t.truncate-truncation.ensures x.exponent_size-size.ensures)
     a.buffer.now a.at ((h.sign_count.result + h.hash_count.result) / 2 + 1) s.requires.1
@@ -150,7 +150,7 @@ returns-else-image-2 c =
     let s = t in
     let a = s.args in
     let fit = s.requires.0 in
-    wrote-odd-fixed a.image a.number fit
+    wrote_odd_fixed a.image a.number fit
     (run_held a.image a.number fit t.truncate-truncation.result t.truncate-truncation.ensures r.column_run-run.ensures)
     (size_held a.image a.number fit t.truncate-truncation.result t.truncate-truncation.ensures x.exponent_size-size.ensures)
     a.buffer.now a.at ((h.sign_count.result + h.hash_count.result) / 2 + 1) s.requires.1

@@ -6,7 +6,7 @@ use mathlib.Core.Bool.{true, false}
 use native.Mathlib.Omega.{arith}
 use lib.Bits.{and_mask}
 use borrow.Author.Rules.{rules}
-use Rattle.codec.proofs.UnpackLaws.{breaks_other, breaks-minus, breaks-zero-below, breaks-zero-above, breaks-below, breaks-first}
+use Rattle.codec.proofs.UnpackLaws.{breaks_other, breaks_minus, breaks_zero_below, breaks_zero_above, breaks_below, breaks_first}
 use Rattle.codec.proofs.unpacking.breaks_rules.Goals as goal
 use Rattle.codec.proofs.unpacking.breaks_rules.Goals.{then-sign-ge8-2+else-size-eq0, else-sign-ge8-2}
 
@@ -19,25 +19,25 @@ pub returns-then-sign-eq1 : goal.returns-then-sign-eq1
 returns-then-sign-eq1 c =
     let a = c.args in
     let mask = and_mask a.sign 3 in
-    sym (breaks-minus a.image a.sign a.whole a.size (omega arith) (omega arith) (omega arith))
+    sym (breaks_minus a.image a.sign a.whole a.size (omega arith) (omega arith) (omega arith))
 
 pub returns-then-sign-ge8 : goal.returns-then-sign-ge8
 returns-then-sign-ge8 c =
     let a = c.args in
     let mask = and_mask a.sign 3 in
-    sym (breaks-zero-below a.image a.sign a.whole a.size (omega arith) (omega arith) (omega arith) (omega arith))
+    sym (breaks_zero_below a.image a.sign a.whole a.size (omega arith) (omega arith) (omega arith) (omega arith))
 
 pub returns-then-whole-eq0 : goal.returns-then-whole-eq0
 returns-then-whole-eq0 c =
     let a = c.args in
     let mask = and_mask a.sign 3 in
-    breaks-zero-above a.image a.sign a.whole a.size (omega arith) (omega arith) (omega arith) (omega arith)
+    breaks_zero_above a.image a.sign a.whole a.size (omega arith) (omega arith) (omega arith) (omega arith)
 
 pub returns-then-size-eq0 : goal.returns-then-size-eq0
 returns-then-size-eq0 c =
     let a = c.args in
     let mask = and_mask a.sign 3 in
-    sym (breaks-below a.image a.sign a.whole a.size (omega arith) (omega arith) (omega arith) (omega arith))
+    sym (breaks_below a.image a.sign a.whole a.size (omega arith) (omega arith) (omega arith) (omega arith))
 
 pub returns-then-image : goal.returns-then-image
 returns-then-image c =
@@ -48,7 +48,7 @@ returns-then-image c =
     let placed : 8 ≤ a.sign → a.size ≡ 0 → ⊥ =
     elim c.if-sign-ge8-2.branch [ then-sign-ge8-2+else-size-eq0 w ↦ λ p q. w.if-size-eq0.false q | else-sign-ge8-2 w ↦ λ p q. omega arith ] in
     c.begins_with_zero.ensures
-    ∙ sym (breaks-first a.image a.sign a.whole a.size (omega arith) (omega arith) placed true k.if-image.true)
+    ∙ sym (breaks_first a.image a.sign a.whole a.size (omega arith) (omega arith) placed true k.if-image.true)
 
 pub returns : goal.returns
 returns c =
@@ -57,4 +57,4 @@ returns c =
     let mask = and_mask a.sign 3 in
     let placed : 8 ≤ a.sign → a.size ≡ 0 → ⊥ =
     elim c.if-sign-ge8-2.branch [ then-sign-ge8-2+else-size-eq0 w ↦ λ p q. w.if-size-eq0.false q | else-sign-ge8-2 w ↦ λ p q. omega arith ] in
-    sym (breaks-first a.image a.sign a.whole a.size (omega arith) (omega arith) placed false c.if-image.false)
+    sym (breaks_first a.image a.sign a.whole a.size (omega arith) (omega arith) placed false c.if-image.false)

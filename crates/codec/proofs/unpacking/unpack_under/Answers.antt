@@ -16,7 +16,7 @@ use Rattle.codec.specs.Contents.{check_images}
 use Rattle.codec.specs.Worths.{worth_of, IsWorths}
 use Rattle.codec.specs.Unpacking.{unpack_columns, unpack_under, unpacked_of}
 use Rattle.codec.proofs.UnderLaws.{image_count}
-use Rattle.codec.proofs.UnpackLaws.{under_refused, under-other, under-columns, images_few, images_checked, image-further, image-picked, image-checked, Unpacking, columns_start, column_inside, columns_refused, columns_turn, columns_answer}
+use Rattle.codec.proofs.UnpackLaws.{under_refused, under_other, under_columns, images_few, images_checked, image_further, image_picked, image_checked, Unpacking, columns_start, column_inside, columns_refused, columns_turn, columns_answer}
 use Rattle.codec.proofs.unpacking.unpack_under.Goals as goal
 
 pub returns-in-Refused : goal.returns-in-Refused
@@ -44,7 +44,7 @@ returns-then-body-body_size c =
     let a = k.args in
     let good = sym k.check_images.ensures ∙ ap check_meaning t.in_default.is in
     let other : length a.body.now ≡ body_size (image_list a.images) → ⊥ = λ e. c.if-body-body_size.true (e ∙ sym z.body_size.ensures) in
-    c.refused-then-body-body_size.ensures ∙ sym (ap unpacked_of (under-other (image_list a.images) a.body.now good other))
+    c.refused-then-body-body_size.ensures ∙ sym (ap unpacked_of (under_other (image_list a.images) a.body.now good other))
 
 pub loop-column-init : goal.loop-column-init
 unfolding filled worth_of
@@ -57,7 +57,7 @@ loop-column-init c =
     let sized = c.if-body-body_size.false ∙ z.body_size.ensures in (
       good,
       record { worth_at = λ b h. table_entry worth_of 256 b h },
-      under-columns (image_list a.images) a.body.now good sized,
+      under_columns (image_list a.images) a.body.now good sized,
       columns_start (image_list a.images) a.body.now sized,
     )
 
@@ -77,7 +77,7 @@ pub column_size-requires : goal.column_size-requires
 column_size-requires c =
     let l = c in
     let a = l.args in
-    (image-checked a.images l.loop-column.invariant.0 l.loop-column.column c.loop-column-test.true).fits
+    (image_checked a.images l.loop-column.invariant.0 l.loop-column.column c.loop-column-test.true).fits
 
 pub overflow_add-end : goal.overflow_add-end
 overflow_add-end c =
@@ -85,8 +85,8 @@ overflow_add-end c =
     let l = n in
     let a = l.args in
     let v = l.loop-column.invariant in
-    let further = image-further a.images v.0 l.loop-column.column n.loop-column-test.true in
-    let picked = image-picked a.images v.0 l.loop-column.column n.loop-column-test.true in
+    let further = image_further a.images v.0 l.loop-column.column n.loop-column-test.true in
+    let picked = image_picked a.images v.0 l.loop-column.column n.loop-column-test.true in
     omega (arith, column_inside v.3 further picked, c.column_size.ensures)
 
 pub slice_bounds-unpack_column-start : goal.slice_bounds-unpack_column-start
@@ -95,8 +95,8 @@ slice_bounds-unpack_column-start c =
     let l = n in
     let a = l.args in
     let v = l.loop-column.invariant in
-    let further = image-further a.images v.0 l.loop-column.column n.loop-column-test.true in
-    let picked = image-picked a.images v.0 l.loop-column.column n.loop-column-test.true in
+    let further = image_further a.images v.0 l.loop-column.column n.loop-column-test.true in
+    let picked = image_picked a.images v.0 l.loop-column.column n.loop-column-test.true in
     omega (arith, column_inside v.3 further picked, c.column_size.ensures)
 
 pub slice_bounds-unpack_column-end : goal.slice_bounds-unpack_column-end
@@ -105,8 +105,8 @@ slice_bounds-unpack_column-end c =
     let l = n in
     let a = l.args in
     let v = l.loop-column.invariant in
-    let further = image-further a.images v.0 l.loop-column.column n.loop-column-test.true in
-    let picked = image-picked a.images v.0 l.loop-column.column n.loop-column-test.true in
+    let further = image_further a.images v.0 l.loop-column.column n.loop-column-test.true in
+    let picked = image_picked a.images v.0 l.loop-column.column n.loop-column-test.true in
     omega (arith, column_inside v.3 further picked, c.column_size.ensures)
 
 pub unpack_column-requires : goal.unpack_column-requires
@@ -116,12 +116,12 @@ unpack_column-requires c =
     let l = n in
     let a = l.args in
     let v = l.loop-column.invariant in
-    let further = image-further a.images v.0 l.loop-column.column n.loop-column-test.true in
-    let picked = image-picked a.images v.0 l.loop-column.column n.loop-column-test.true in
+    let further = image_further a.images v.0 l.loop-column.column n.loop-column-test.true in
+    let picked = image_picked a.images v.0 l.loop-column.column n.loop-column-test.true in
     let inside = column_inside v.3 further picked in
     let part : l.loop-column.at + z.column_size.result - l.loop-column.at ≤ length (drop l.loop-column.at a.body.now) =
     omega (arith, z.column_size.ensures, length-drop l.loop-column.at a.body.now) in (
-      image-checked a.images v.0 l.loop-column.column n.loop-column-test.true,
+      image_checked a.images v.0 l.loop-column.column n.loop-column-test.true,
       length-take-le _ _ part ∙ omega (arith, z.column_size.ensures),
       v.1,
     )
@@ -135,8 +135,8 @@ returns-in-Refused-unpack_column c =
     let l = n in
     let a = l.args in
     let v = l.loop-column.invariant in
-    let further = image-further a.images v.0 l.loop-column.column n.loop-column-test.true in
-    let picked = image-picked a.images v.0 l.loop-column.column n.loop-column-test.true in
+    let further = image_further a.images v.0 l.loop-column.column n.loop-column-test.true in
+    let picked = image_picked a.images v.0 l.loop-column.column n.loop-column-test.true in
     c.refused-in-Refused-unpack_column.ensures
     ∙ sym
     (ap unpacked_of
@@ -165,8 +165,8 @@ loop-column-preserved c =
     let l = n in
     let a = l.args in
     let v = l.loop-column.invariant in
-    let further = image-further a.images v.0 l.loop-column.column n.loop-column-test.true in
-    let picked = image-picked a.images v.0 l.loop-column.column n.loop-column-test.true in (
+    let further = image_further a.images v.0 l.loop-column.column n.loop-column-test.true in
+    let picked = image_picked a.images v.0 l.loop-column.column n.loop-column-test.true in (
       v.0,
       v.1,
       v.2,

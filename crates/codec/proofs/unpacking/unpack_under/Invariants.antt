@@ -16,7 +16,7 @@ use Rattle.codec.specs.Contents.{check_images}
 use Rattle.codec.specs.Worths.{worth_of, IsWorths}
 use Rattle.codec.specs.Unpacking.{unpack_columns, unpack_under, unpacked_of}
 use Rattle.codec.proofs.UnderLaws.{image_count}
-use Rattle.codec.proofs.UnpackLaws.{under_refused, under-other, under-columns, images_few, images_checked, image-further, image-picked, image-checked, Unpacking, columns_start, column_inside, columns_refused, columns_turn, columns_answer}
+use Rattle.codec.proofs.UnpackLaws.{under_refused, under_other, under_columns, images_few, images_checked, image_further, image_picked, image_checked, Unpacking, columns_start, column_inside, columns_refused, columns_turn, columns_answer}
 use Rattle.codec.proofs.unpacking.unpack_under.Given as goal
 
 abbrev pub invariant-loop-column : goal.invariant-loop-column

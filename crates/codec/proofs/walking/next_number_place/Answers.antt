@@ -7,7 +7,7 @@ use native.Mathlib.Omega.{arith}
 use borrow.Author.Rules.{rules}
 use lib.ListN.{length, drop, length-drop}
 use Rattle.codec.proofs.TextLaws.{blanks_within, read_used_lem}
-use Rattle.codec.proofs.WalkLaws.{Skipping, skip_starts, skip-here, skip-past, skip-blank-end, skip-ends}
+use Rattle.codec.proofs.WalkLaws.{Skipping, skip_starts, skip_here, skip_past, skip_blank_end, skip_ends}
 use Rattle.codec.proofs.walking.next_number_place.Goals as goal
 
 pub loop-place-init : goal.loop-place-init
@@ -24,7 +24,7 @@ returns-then-text-behind c =
     let b = c in
     let l = b in
     let a = l.args in
-    skip-blank-end a.text.now a.from l.loop-place.place l.loop-place.invariant b.blanks.ensures (omega arith)
+    skip_blank_end a.text.now a.from l.loop-place.place l.loop-place.invariant b.blanks.ensures (omega arith)
 
 pub returns-then-reading-ne0 : goal.returns-then-reading-ne0
 returns-then-reading-ne0 c =
@@ -33,7 +33,7 @@ returns-then-reading-ne0 c =
     let l = b in
     let a = l.args in
     let behind = drop (l.loop-place.place + b.blanks.result) a.text.now in
-    skip-here a.text.now a.from l.loop-place.place l.loop-place.invariant (omega arith) b.blanks.ensures
+    skip_here a.text.now a.from l.loop-place.place l.loop-place.invariant (omega arith) b.blanks.ensures
     (λ none. c.if-reading-ne0.true (read_used_lem behind r.read_at-reading.ensures ∙ none))
 
 pub loop-place-preserved : goal.loop-place-preserved
@@ -43,11 +43,11 @@ loop-place-preserved c =
     let l = b in
     let a = l.args in
     let behind = drop (l.loop-place.place + b.blanks.result) a.text.now in
-    skip-past a.text.now a.from l.loop-place.place l.loop-place.invariant b.blanks.ensures (omega arith)
+    skip_past a.text.now a.from l.loop-place.place l.loop-place.invariant b.blanks.ensures (omega arith)
     (sym (read_used_lem behind r.read_at-reading.ensures) ∙ c.if-reading-ne0.false)
 
 pub returns : goal.returns
 returns c =
     let l = c in
     let a = l.args in
-    skip-ends a.text.now a.from l.loop-place.place l.loop-place.invariant (omega arith)
+    skip_ends a.text.now a.from l.loop-place.place l.loop-place.invariant (omega arith)

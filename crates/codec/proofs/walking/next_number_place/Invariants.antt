@@ -7,7 +7,7 @@ use native.Mathlib.Omega.{arith}
 use borrow.Author.Rules.{rules}
 use lib.ListN.{length, drop, length-drop}
 use Rattle.codec.proofs.TextLaws.{blanks_within, read_used_lem}
-use Rattle.codec.proofs.WalkLaws.{Skipping, skip_starts, skip-here, skip-past, skip-blank-end, skip-ends}
+use Rattle.codec.proofs.WalkLaws.{Skipping, skip_starts, skip_here, skip_past, skip_blank_end, skip_ends}
 use Rattle.codec.proofs.walking.next_number_place.Given as goal
 
 abbrev pub invariant-loop-place : goal.invariant-loop-place

@@ -8,7 +8,7 @@ use lib.ListN.{drop}
 use Rattle.decimal.specs.Number.{number_meaning}
 use Rattle.codec.specs.Lists.{filled, max_columns}
 use Rattle.codec.proofs.TextLaws.{read_used_lem, read_number}
-use Rattle.codec.proofs.WalkLaws.{used_inside, Collecting, collecting_starts, collecting-stops, collecting-refused, collecting-turns, collecting-ends}
+use Rattle.codec.proofs.WalkLaws.{used_inside, Collecting, collecting_starts, collecting_stops, collecting_refused, collecting_turns, collecting_ends}
 use Rattle.codec.proofs.walking.read_text_numbers.Goals as goal
 
 pub loop-count-init : goal.loop-count-init
@@ -28,7 +28,7 @@ returns-then-reading-eq0 c =
     let r = t in
     let l = r in
     let a = l.args in
-    collecting-stops a.text.now a.from l.loop-count.invariant
+    collecting_stops a.text.now a.from l.loop-count.invariant
     (sym (read_used_lem (drop l.loop-count.place a.text.now) r.read_at-reading.ensures) ∙ t.if-reading-eq0.true) c.why_stopped-answer.ensures
 
 pub returns-in-Refused : goal.returns-in-Refused
@@ -39,7 +39,7 @@ returns-in-Refused c =
     let l = r in
     let a = l.args in
     let rest = drop l.loop-count.place a.text.now in
-    collecting-refused a.text.now a.from l.loop-count.invariant (omega arith)
+    collecting_refused a.text.now a.from l.loop-count.invariant (omega arith)
     (λ none. e.if-reading-eq0.false (read_used_lem rest r.read_at-reading.ensures ∙ none))
     (read_number rest r.read_at-reading.ensures ∙ ap number_meaning n.in-Refused.is)
 
@@ -60,7 +60,7 @@ loop-count-preserved c =
     let l = r in
     let a = l.args in
     let rest = drop l.loop-count.place a.text.now in
-    collecting-turns a.text.now a.from l.loop-count.invariant (omega arith)
+    collecting_turns a.text.now a.from l.loop-count.invariant (omega arith)
     (λ none. e.if-reading-eq0.false (read_used_lem rest r.read_at-reading.ensures ∙ none))
     (read_number rest r.read_at-reading.ensures ∙ ap number_meaning n.in-Number.is)
     (read_used_lem rest r.read_at-reading.ensures)
@@ -74,4 +74,4 @@ pub returns : goal.returns
 returns c =
     let l = c in
     let a = l.args in
-    collecting-ends a.text.now a.from l.loop-count.invariant (omega arith) c.why_stopped-answer-2.ensures
+    collecting_ends a.text.now a.from l.loop-count.invariant (omega arith) c.why_stopped-answer-2.ensures

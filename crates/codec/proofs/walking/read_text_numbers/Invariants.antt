@@ -8,7 +8,7 @@ use lib.ListN.{drop}
 use Rattle.decimal.specs.Number.{number_meaning}
 use Rattle.codec.specs.Lists.{filled, max_columns}
 use Rattle.codec.proofs.TextLaws.{read_used_lem, read_number}
-use Rattle.codec.proofs.WalkLaws.{used_inside, Collecting, collecting_starts, collecting-stops, collecting-refused, collecting-turns, collecting-ends}
+use Rattle.codec.proofs.WalkLaws.{used_inside, Collecting, collecting_starts, collecting_stops, collecting_refused, collecting_turns, collecting_ends}
 use Rattle.codec.proofs.walking.read_text_numbers.Given as goal
 
 abbrev pub invariant-loop-count : goal.invariant-loop-count

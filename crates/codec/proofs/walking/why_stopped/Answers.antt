@@ -1,7 +1,7 @@
 -- `why_stopped` meets its contract: each test says which case of `stop_before` holds. Assumes nothing.
 use mathlib.Core.Path.{sym, ◌∙◌}
 use native.Mathlib.Omega.{arith}
-use Rattle.codec.proofs.WalkLaws.{stop_end, stop-none, stop-many}
+use Rattle.codec.proofs.WalkLaws.{stop_end, stop_none, stop_many}
 use Rattle.codec.proofs.walking.why_stopped.Goals as goal
 
 pub returns-then-text-place : goal.returns-then-text-place
@@ -10,9 +10,9 @@ returns-then-text-place c = let a = c.args in stop_end a.text.now a.place c.if-t
 pub returns-then-used-eq0 : goal.returns-then-used-eq0
 returns-then-used-eq0 c =
     let e = c in
-    stop-none e.args.text.now e.args.place (omega arith) (sym e.requires ∙ c.if-used-eq0.true)
+    stop_none e.args.text.now e.args.place (omega arith) (sym e.requires ∙ c.if-used-eq0.true)
 
 pub returns : goal.returns
 returns c =
     let e = c in
-    stop-many e.args.text.now e.args.place (omega arith) (λ none. c.if-used-eq0.false (e.requires ∙ none))
+    stop_many e.args.text.now e.args.place (omega arith) (λ none. c.if-used-eq0.false (e.requires ∙ none))

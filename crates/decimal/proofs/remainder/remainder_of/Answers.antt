@@ -7,8 +7,8 @@ use Rattle.decimal.specs.Answer.{Answer, done, check_meaning}
 use Rattle.decimal.specs.Digits.{precision}
 use Rattle.decimal.specs.Truncation.{Fit, kept_count}
 use Rattle.decimal.specs.Remainder.{cut_power, cut_off, remainder}
-use Rattle.decimal.proofs.KeptLaws.{checked_refused, checked_fits, kept-size}
-use Rattle.decimal.proofs.RemainderLaws.{remainder_path, power_zero, power_some, cut-last, remainder-fit, remainder_refused}
+use Rattle.decimal.proofs.KeptLaws.{checked_refused, checked_fits, kept_size}
+use Rattle.decimal.proofs.RemainderLaws.{remainder_path, power_zero, power_some, cut_last, remainder_fit, remainder_refused}
 use Rattle.decimal.proofs.remainder.remainder_of.Goals as goal
 
 -- the parts that the code finds make the remainder
@@ -22,8 +22,8 @@ made :
 unfolding cut_off
 made place im n fit counted last held =
     ap {B = Answer Remainder} done
-    (remainder_path (last ∙ ap (λ (c : ℕ). n.mantissa % 10 ^ (precision - c)) counted ∙ sym (cut-last im n fit)) held)
-    ∙ sym (remainder-fit im n fit place)
+    (remainder_path (last ∙ ap (λ (c : ℕ). n.mantissa % 10 ^ (precision - c)) counted ∙ sym (cut_last im n fit)) held)
+    ∙ sym (remainder_fit im n fit place)
 
 pub returns-in-Refused : goal.returns-in-Refused
 returns-in-Refused c =
@@ -40,7 +40,7 @@ last_digits-whole-requires c =
     let t = c in
     let a = t.args in
     let fit = checked_fits a.place a.image a.number (sym t.fit.ensures ∙ ap check_meaning t.in_default.is) in
-    omega (arith, kept-size a.image a.number fit, fit.size, c.kept_count-count.ensures)
+    omega (arith, kept_size a.image a.number fit, fit.size, c.kept_count-count.ensures)
 
 pub returns-then-mantissa-eq0 : goal.returns-then-mantissa-eq0
 returns-then-mantissa-eq0 c =

@@ -2,7 +2,7 @@
 use Rattle.std.proofs.Common.{sym, ap, ◌∙◌, rules}
 use Rattle.decimal.specs.Image.{image_meaning}
 use Rattle.decimal.specs.Answer.{checked_only}
-use Rattle.decimal.proofs.TruncationLaws.{truncation_image_refused, truncation-abnormal, truncation-limited}
+use Rattle.decimal.proofs.TruncationLaws.{truncation_image_refused, truncation_abnormal, truncation_limited}
 use Rattle.decimal.proofs.truncation.fit.Goals as goal
 
 pub returns-in-Refused : goal.returns-in-Refused
@@ -17,7 +17,7 @@ returns-then-is_normal c =
     let n = c in
     let checked = sym n.checked.ensures ∙ ap image_meaning n.in_default.is in
     let is_normal = sym n.is_normal.ensures ∙ c.if-is_normal.true in
-    c.limits.ensures ∙ sym (ap checked_only (truncation-limited _ _ _ checked is_normal))
+    c.limits.ensures ∙ sym (ap checked_only (truncation_limited _ _ _ checked is_normal))
 
 pub returns : goal.returns
 unfolding checked_only
@@ -25,4 +25,4 @@ returns c =
     let n = c in
     let checked = sym n.checked.ensures ∙ ap image_meaning n.in_default.is in
     let abnormal = sym n.is_normal.ensures ∙ c.if-is_normal.false in
-    c.refused.ensures ∙ sym (ap checked_only (truncation-abnormal _ _ _ checked abnormal))
+    c.refused.ensures ∙ sym (ap checked_only (truncation_abnormal _ _ _ checked abnormal))

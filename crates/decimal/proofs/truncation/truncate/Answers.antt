@@ -9,7 +9,7 @@ use Rattle.decimal.specs.Answer.{check_meaning}
 use Rattle.decimal.specs.Truncation.{is_signed, stored_exponent, truncated_to, truncation, truncation_of, Fit, kept_count, kept_number}
 use Rattle.decimal.proofs.NumberLaws.{normal_high}
 use Rattle.decimal.proofs.TruncationLaws.{fit_truncation}
-use Rattle.decimal.proofs.KeptLaws.{checked_refused, checked_fits, kept-size, kept_whole, kept-sign}
+use Rattle.decimal.proofs.KeptLaws.{checked_refused, checked_fits, kept_size, kept_whole, kept_sign}
 use Rattle.decimal.proofs.truncation.truncate.Goals as goal
 
 -- the parts that the code finds make the truncation
@@ -24,7 +24,7 @@ made :
 unfolding truncation_of truncated_to kept_number
 made place im n {negative} {count} {x} {halves} fit counted sign split stored =
     let same_sign : negative ≡ (truncated_to im n).negative =
-    sign ∙ ap (λ (c : ℕ). is_signed im.sign && (n.negative && not (eqb c 0))) counted ∙ sym (kept-sign im n fit) in
+    sign ∙ ap (λ (c : ℕ). is_signed im.sign && (n.negative && not (eqb c 0))) counted ∙ sym (kept_sign im n fit) in
     let same-halves : halves ≡ packed_of (digits_of precision (truncated_to im n).whole) =
     split ∙ ap (λ (c : ℕ). packed_of (digits_of precision (n.mantissa / 10 ^ (precision - c)))) counted ∙ sym (ap (λ (k : ℕ). packed_of (digits_of precision k)) (kept_whole im n fit)) in
     let all : ◌≡◌ {A = Truncation} (record { answer = checks.Fine; negative = negative; halves = halves; x = x })
@@ -47,7 +47,7 @@ kept_halves-requires c =
     let t = k in
     let a = t.args in
     let fit = checked_fits a.place a.image a.number (sym t.fit.ensures ∙ ap check_meaning t.in_default.is) in
-    (normal_high a.number fit.number_checked, omega (arith, kept-size a.image a.number fit, fit.size, k.kept_count-count.ensures))
+    (normal_high a.number fit.number_checked, omega (arith, kept_size a.image a.number fit, fit.size, k.kept_count-count.ensures))
 
 pub stored_exponent-requires : goal.stored_exponent-requires
 stored_exponent-requires c =

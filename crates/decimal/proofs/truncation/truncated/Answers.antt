@@ -7,7 +7,7 @@ use Rattle.decimal.specs.Digits.{precision}
 use Rattle.decimal.specs.Truncation.{is_signed, truncated_to, truncation, number_of, truncated_number, Fit, kept_count, kept_number}
 use Rattle.decimal.proofs.NumberLaws.{number_path, normal_high}
 use Rattle.decimal.proofs.TruncationLaws.{fit_truncation}
-use Rattle.decimal.proofs.KeptLaws.{checked_refused, checked_fits, kept-size, number-none, number-some}
+use Rattle.decimal.proofs.KeptLaws.{checked_refused, checked_fits, kept_size, number_none, number_some}
 use Rattle.decimal.proofs.truncation.truncated.Goals as goal
 
 module _ (place : ℕ) (im : Image) (n : Number) where
@@ -50,7 +50,7 @@ returns-then-count-eq0 c =
     let a = t.args in
     let fit = checked_fits a.place a.image a.number (sym t.fit.ensures ∙ ap check_meaning t.in_default.is) in
     let none : kept_count a.image a.number ≡ 0 = sym k.kept_count-count.ensures ∙ omega arith in
-    sym (stands a.place a.image a.number fit ∙ number-none a.image a.number fit a.place none)
+    sym (stands a.place a.image a.number fit ∙ number_none a.image a.number fit a.place none)
 
 pub cut_mantissa-requires : goal.cut_mantissa-requires
 cut_mantissa-requires c =
@@ -58,7 +58,7 @@ cut_mantissa-requires c =
     let t = k in
     let a = t.args in
     let fit = checked_fits a.place a.image a.number (sym t.fit.ensures ∙ ap check_meaning t.in_default.is) in
-    (normal_high a.number fit.number_checked, omega (arith, kept-size a.image a.number fit, fit.size, k.kept_count-count.ensures))
+    (normal_high a.number fit.number_checked, omega (arith, kept_size a.image a.number fit, fit.size, k.kept_count-count.ensures))
 
 pub returns : goal.returns
 returns c =
@@ -69,4 +69,4 @@ returns c =
     let fit = checked_fits a.place a.image a.number (sym t.fit.ensures ∙ ap check_meaning t.in_default.is) in
     let some : 0 < kept_count a.image a.number = omega (arith, k.kept_count-count.ensures, m.if-count-eq0.false) in
     ap {B = Answer Number} done (made a.image a.number k.kept_count-count.ensures m.keeps_minus.ensures c.cut_mantissa.ensures)
-    ∙ sym (stands a.place a.image a.number fit ∙ number-some a.image a.number fit some a.place)
+    ∙ sym (stands a.place a.image a.number fit ∙ number_some a.image a.number fit some a.place)

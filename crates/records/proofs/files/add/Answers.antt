@@ -7,7 +7,7 @@ use Rattle.codec.specs.Answers.{write_meaning}
 use Rattle.codec.specs.Lists.{list_of}
 use Rattle.codec.proofs.ContentsLaws.{told_refused}
 use Rattle.records.specs.Files.{read_used}
-use Rattle.records.proofs.FileLaws.{adds_refused, adds-within, adds-room, adds-stopped, adds-done}
+use Rattle.records.proofs.FileLaws.{adds_refused, adds_within, adds_room, adds_stopped, adds_done}
 use Rattle.records.proofs.files.add.Goals as goal
 
 pub returns-in-Refused : goal.returns-in-Refused
@@ -22,7 +22,7 @@ slice_bounds-pack_under-count c =
     let f = c in
     let a = f.args in
     let within =
-    adds-within a.buffer.now a.used (list_of a.numbers) f.find_place-table.result f.find_place-table.ensures
+    adds_within a.buffer.now a.used (list_of a.numbers) f.find_place-table.result f.find_place-table.ensures
     c.in_default.is in
     omega arith
 
@@ -31,7 +31,7 @@ slice_bounds-pack_under-start c =
     let f = c in
     let a = f.args in
     let within =
-    adds-within a.buffer.now a.used (list_of a.numbers) f.find_place-table.result f.find_place-table.ensures
+    adds_within a.buffer.now a.used (list_of a.numbers) f.find_place-table.result f.find_place-table.ensures
     c.in_default.is in
     omega arith
 
@@ -42,7 +42,7 @@ overflow_add-result c =
     let f = t in
     let a = f.args in
     let room =
-    adds-room a.buffer.now a.used (list_of a.numbers) f.find_place-table.result f.find_place-table.ensures t.in_default.is
+    adds_room a.buffer.now a.used (list_of a.numbers) f.find_place-table.result f.find_place-table.ensures t.in_default.is
     (p.pack_under.ensures.answer, p.pack_under.ensures.bytes) (ap write_meaning c.in-Written.is) in
     omega arith
 
@@ -52,7 +52,7 @@ returns-in-Refused-pack_under c =
     let t = p in
     let f = t in
     let a = f.args in
-    let all = adds-stopped a.buffer.now a.used (list_of a.numbers) f.find_place-table.result f.find_place-table.ensures t.in_default.is
+    let all = adds_stopped a.buffer.now a.used (list_of a.numbers) f.find_place-table.result f.find_place-table.ensures t.in_default.is
     (p.pack_under.ensures.answer, p.pack_under.ensures.bytes) (ap write_meaning c.in-Refused-pack_under.is) in record { answer = all.0; bytes = all.1; }
 
 pub returns-in-Written : goal.returns-in-Written
@@ -61,5 +61,5 @@ returns-in-Written c =
     let t = p in
     let f = t in
     let a = f.args in
-    let all = adds-done a.buffer.now a.used (list_of a.numbers) f.find_place-table.result f.find_place-table.ensures t.in_default.is
+    let all = adds_done a.buffer.now a.used (list_of a.numbers) f.find_place-table.result f.find_place-table.ensures t.in_default.is
     (p.pack_under.ensures.answer, p.pack_under.ensures.bytes) (ap write_meaning c.in-Written.is) in record { answer = all.0; bytes = all.1; }

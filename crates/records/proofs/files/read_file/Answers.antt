@@ -3,13 +3,13 @@ use mathlib.Core.Path.{ap, sym, ◌∙◌}
 use native.Mathlib.Omega.{arith}
 use borrow.Author.Rules.{rules}
 use Rattle.codec.specs.Contents.{contents_of}
-use Rattle.records.proofs.FileLaws.{file-stops, size-within, body_some, file-whole, file-torn}
+use Rattle.records.proofs.FileLaws.{file_stops, size_within, body_some, file_whole, file_torn}
 use Rattle.records.proofs.files.read_file.Goals as goal
 
 pub overflow_sub-file : goal.overflow_sub-file
 overflow_sub-file c =
     let f = c in
-    size-within f.args.file.now f.read_contents-table.result f.read_contents-table.ensures
+    size_within f.args.file.now f.read_contents-table.result f.read_contents-table.ensures
     c.in-Fine.is
 
 pub nonzero_rem-file : goal.nonzero_rem-file
@@ -21,13 +21,13 @@ nonzero_rem-file c =
 pub returns-in-Refused : goal.returns-in-Refused
 returns-in-Refused c =
     let f = c in
-    file-stops f.args.file.now f.read_contents-table.result f.read_contents-table.ensures _ c.in-Refused.is
+    file_stops f.args.file.now f.read_contents-table.result f.read_contents-table.ensures _ c.in-Refused.is
 
 pub returns-then-file-table-eq0 : goal.returns-then-file-table-eq0
 returns-then-file-table-eq0 c =
     let t = c in
     let f = t in
-    file-whole f.args.file.now f.read_contents-table.result f.read_contents-table.ensures t.in-Fine.is
+    file_whole f.args.file.now f.read_contents-table.result f.read_contents-table.ensures t.in-Fine.is
     (omega arith)
 
 pub returns-else-file-table-eq0 : goal.returns-else-file-table-eq0
@@ -37,5 +37,5 @@ returns-else-file-table-eq0 c =
     c.refused.ensures
     ∙ sym
     (ap contents_of
-    (file-torn f.args.file.now f.read_contents-table.result f.read_contents-table.ensures t.in-Fine.is
+    (file_torn f.args.file.now f.read_contents-table.result f.read_contents-table.ensures t.in-Fine.is
     (λ e. omega arith)))

@@ -4,7 +4,7 @@ use native.Mathlib.Omega.{arith}
 use borrow.Author.Rules.{rules}
 use Rattle.codec.proofs.ContentsLaws.{told_refused}
 use Rattle.records.specs.Files.{read_file}
-use Rattle.records.proofs.FileLaws.{shown_refused, read_within, read_some, read_none, read-shown, read_inside}
+use Rattle.records.proofs.FileLaws.{shown_refused, read_within, read_some, read_none, read_shown, read_inside}
 use Rattle.records.proofs.files.show.Goals as goal
 
 pub returns-in-Refused : goal.returns-in-Refused
@@ -37,4 +37,4 @@ returns c =
     let f = c in
     let a = f.args in
     let told = c.in_default.is in
-    sym (read-shown a.file.now f.read_file-table.result f.read_file-table.ensures told a.index (omega arith))
+    sym (read_shown a.file.now f.read_file-table.result f.read_file-table.ensures told a.index (omega arith))

@@ -14,9 +14,9 @@ use Rattle.records.proofs.LinesLaws.{
   part_unpacked,
   Checking,
   checking_starts,
-  checking-inside,
-  checking-stops,
-  checking-turns,
+  checking_inside,
+  checking_stops,
+  checking_turns,
   checking_ends,
 }
 use Rattle.records.proofs.listing.check_file.Goals as goal
@@ -30,29 +30,29 @@ loop-at-init c f = checking_starts c.args.file.now f.reads f.held.size
 pub read_body-record-requires : goal.read_body-record-requires
 read_body-record-requires c =
     let f = file_held c.args.file.now c.read_file-table.ensures c.in_default.is in
-    omega (arith, checking-inside (c.loop-at.invariant f) c.loop-at-test.true, f.held.body)
+    omega (arith, checking_inside (c.loop-at.invariant f) c.loop-at-test.true, f.held.body)
 
 pub returns-in-Refused-found : goal.returns-in-Refused-found
 returns-in-Refused-found c =
     let f = file_held c.args.file.now c.read_file-table.ensures c.in_default.is in
     let body = part_unpacked f.held c.args.file.now c.loop-at.at c.read_body-record.ensures in
     c.refused.ensures
-    ∙ sym (ap contents_of (checking-stops (c.loop-at.invariant f) c.loop-at-test.true (unpack_refused _ body c.in-Refused-found.is)))
+    ∙ sym (ap contents_of (checking_stops (c.loop-at.invariant f) c.loop-at-test.true (unpack_refused _ body c.in-Refused-found.is)))
 
 pub overflow_add-at : goal.overflow_add-at
 overflow_add-at c =
     let f = file_held c.args.file.now c.read_file-table.ensures c.in_default.is in
-    omega (arith, checking-inside (c.loop-at.invariant f) c.loop-at-test.true, f.held.body)
+    omega (arith, checking_inside (c.loop-at.invariant f) c.loop-at-test.true, f.held.body)
 
 pub loop-at-smaller : goal.loop-at-smaller
 loop-at-smaller c =
     let f = file_held c.args.file.now c.read_file-table.ensures c.in_default.is in
-    omega (arith, checking-inside (c.loop-at.invariant f) c.loop-at-test.true, f.held.body, f.some)
+    omega (arith, checking_inside (c.loop-at.invariant f) c.loop-at-test.true, f.held.body, f.some)
 
 pub loop-at-preserved : goal.loop-at-preserved
 loop-at-preserved c f =
     let body = part_unpacked f.held c.args.file.now c.loop-at.at c.read_body-record.ensures in
-    checking-turns (c.loop-at.invariant f) c.loop-at-test.true f.held.sound.all (unpack_read _ body c.in_default-found.is).1
+    checking_turns (c.loop-at.invariant f) c.loop-at-test.true f.held.sound.all (unpack_read _ body c.in_default-found.is).1
     (ap (λ (k : ℕ). c.loop-at.at + k) f.held.body)
 
 pub returns : goal.returns

@@ -14,9 +14,9 @@ use Rattle.records.proofs.LinesLaws.{
   part_unpacked,
   Checking,
   checking_starts,
-  checking-inside,
-  checking-stops,
-  checking-turns,
+  checking_inside,
+  checking_stops,
+  checking_turns,
   checking_ends,
 }
 use Rattle.records.proofs.listing.check_file.Given as goal

@@ -20,8 +20,8 @@ use Rattle.records.proofs.ListingLaws.{
   last_line,
   listed_parts,
   listed_sizes,
-  measured-long,
-  measured-short,
+  measured_long,
+  measured_short,
 }
 use Rattle.records.proofs.listing.list_checked.Goals as goal
 
@@ -56,7 +56,7 @@ returns-then-is_longer c =
     let a = c.args in
     let h = listed_held c.requires in
     let long =
-    measured-long h (length a.buffer.now) c.decimal_length.ensures c.decimal_length-2.ensures c.is_longer.ensures c.if-is_longer.true in
+    measured_long h (length a.buffer.now) c.decimal_length.ensures c.decimal_length-2.ensures c.is_longer.ensures c.if-is_longer.true in
     let found = refused_answers (listed a.file.now (length a.buffer.now)) a.buffer.now long in
     record { answer = c.no_room.ensures ∙ found.0; bytes = found.1; }
 
@@ -68,7 +68,7 @@ write_count-start-requires c =
     let lines = lines_of a.file.now in
     let last = last_line a.file.now a.table in
     let fits : length first + length lines + length last ≤ length a.buffer.now =
-    measured-short h (length a.buffer.now) c.decimal_length.ensures c.decimal_length-2.ensures c.is_longer.ensures c.if-is_longer.false in
+    measured_short h (length a.buffer.now) c.decimal_length.ensures c.decimal_length-2.ensures c.is_longer.ensures c.if-is_longer.false in
     omega (arith, fits)
 
 pub write_records-end-requires : goal.write_records-end-requires
@@ -79,7 +79,7 @@ write_records-end-requires c =
     let lines = lines_of a.file.now in
     let last = last_line a.file.now a.table in
     let fits : length first + length lines + length last ≤ length a.buffer.now =
-    measured-short h (length a.buffer.now) c.decimal_length.ensures c.decimal_length-2.ensures c.is_longer.ensures c.if-is_longer.false in
+    measured_short h (length a.buffer.now) c.decimal_length.ensures c.decimal_length-2.ensures c.is_longer.ensures c.if-is_longer.false in
     (c.requires, omega (arith, fits, c.write_count-start.ensures.place, c.write_count-start.auto.buffer))
 
 pub write_count-requires : goal.write_count-requires
@@ -90,7 +90,7 @@ write_count-requires c =
     let lines = lines_of a.file.now in
     let last = last_line a.file.now a.table in
     let fits : length first + length lines + length last ≤ length a.buffer.now =
-    measured-short h (length a.buffer.now) c.decimal_length.ensures c.decimal_length-2.ensures c.is_longer.ensures c.if-is_longer.false in
+    measured_short h (length a.buffer.now) c.decimal_length.ensures c.decimal_length-2.ensures c.is_longer.ensures c.if-is_longer.false in
     omega (
       arith,
       fits,
@@ -108,7 +108,7 @@ returns c =
     let lines = lines_of a.file.now in
     let last = last_line a.file.now a.table in
     let fits : length first + length lines + length last ≤ length a.buffer.now =
-    measured-short h (length a.buffer.now) c.decimal_length.ensures c.decimal_length-2.ensures c.is_longer.ensures c.if-is_longer.false in
+    measured_short h (length a.buffer.now) c.decimal_length.ensures c.decimal_length-2.ensures c.is_longer.ensures c.if-is_longer.false in
     let b = a.buffer.now in
     let text = first ++ (lines ++ last) in
     let long = parts_length first lines last in

@@ -5,7 +5,7 @@ use lib.ListN.{length}
 use borrow.Author.Rules.{rules}
 use Rattle.codec.proofs.BufferLaws.{written_length}
 use Rattle.records.specs.Listing.{count_line}
-use Rattle.records.proofs.ReportLaws.{count_line_length, count-digits-room, count-end-room, count-written}
+use Rattle.records.proofs.ReportLaws.{count_line_length, count_digits_room, count_end_room, count_written}
 use Rattle.records.proofs.listing.write_count.Goals as goal
 
 pub write_bytes-requires : goal.write_bytes-requires
@@ -18,7 +18,7 @@ write_decimal-requires c =
     let w = c in
     let s = w in
     let a = s.args in
-    count-digits-room a.word.now a.value a.buffer.now a.from s.requires w.write_bytes.ensures
+    count_digits_room a.word.now a.value a.buffer.now a.from s.requires w.write_bytes.ensures
 
 pub overflow_add-end : goal.overflow_add-end
 overflow_add-end c =
@@ -31,7 +31,7 @@ bounds-buffer-end c =
     let w = d in
     let s = w in
     let a = s.args in
-    count-end-room a.word.now a.value a.buffer.now a.from s.requires w.write_bytes.ensures d.write_decimal.ensures
+    count_end_room a.word.now a.value a.buffer.now a.from s.requires w.write_bytes.ensures d.write_decimal.ensures
     (omega (arith, c.decimal_length.ensures))
 
 pub overflow_add-result : goal.overflow_add-result
@@ -45,5 +45,5 @@ returns c =
     let w = d in
     let s = w in
     let a = s.args in
-    record { place = omega (arith, count_line_length a.word.now a.value, c.decimal_length.ensures); bytes = count-written a.word.now a.value a.buffer.now a.from s.requires w.write_bytes.ensures d.write_decimal.ensures
+    record { place = omega (arith, count_line_length a.word.now a.value, c.decimal_length.ensures); bytes = count_written a.word.now a.value a.buffer.now a.from s.requires w.write_bytes.ensures d.write_decimal.ensures
           (omega (arith, c.decimal_length.ensures)); }

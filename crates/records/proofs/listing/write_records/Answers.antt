@@ -11,9 +11,9 @@ use Rattle.records.proofs.LinesLaws.{
   listed_held,
   Lining,
   lining_starts,
-  lining-inside,
-  lining-room,
-  lining-turns,
+  lining_inside,
+  lining_room,
+  lining_turns,
   lining_ends,
   front_has,
   front_line,
@@ -28,7 +28,7 @@ read_body-record-requires c =
     let h = listed_held c.requires.0 in
     let v = c.loop-at.invariant h in
     let more = c.loop-at-test.true in
-    omega (arith, lining-inside v more, h.held.body)
+    omega (arith, lining_inside v more, h.held.body)
 
 pub write_record-out-requires : goal.write_record-out-requires
 write_record-out-requires c =
@@ -38,7 +38,7 @@ write_record-out-requires c =
     let line = front_line h v more c.read_body-record.ensures in (
       omega (arith, h.held.count, h.held.sound.high),
       front_has h v more c.read_body-record.ensures,
-      omega (arith, ap length line, lining-room v more c.requires.1),
+      omega (arith, ap length line, lining_room v more c.requires.1),
     )
 
 pub overflow_add-at : goal.overflow_add-at
@@ -46,20 +46,20 @@ overflow_add-at c =
     let h = listed_held c.requires.0 in
     let v = c.loop-at.invariant h in
     let more = c.loop-at-test.true in
-    omega (arith, lining-inside v more, h.held.body)
+    omega (arith, lining_inside v more, h.held.body)
 
 pub loop-at-smaller : goal.loop-at-smaller
 loop-at-smaller c =
     let h = listed_held c.requires.0 in
     let v = c.loop-at.invariant h in
     let more = c.loop-at-test.true in
-    omega (arith, lining-inside v more, h.held.body, h.lists.some)
+    omega (arith, lining_inside v more, h.held.body, h.lists.some)
 
 pub loop-at-preserved : goal.loop-at-preserved
 loop-at-preserved c h =
     let v = c.loop-at.invariant h in
     let more = c.loop-at-test.true in
-    lining-turns v more c.requires.1 (front_line h v more c.read_body-record.ensures) c.write_record-out.ensures.place
+    lining_turns v more c.requires.1 (front_line h v more c.read_body-record.ensures) c.write_record-out.ensures.place
     c.write_record-out.ensures.bytes (ap (λ (k : ℕ). c.loop-at.at + k) h.held.body)
 
 pub returns : goal.returns

@@ -10,7 +10,7 @@ use Rattle.codec.proofs.BufferLaws.{written_length, written_stored}
 use Rattle.codec.proofs.AlphaLaws.{refused_answers, done_answers}
 use Rattle.records.specs.Listing.{refusal_line}
 use Rattle.records.proofs.WritingLaws.{decimal_few}
-use Rattle.records.proofs.ReportLaws.{refusal_length, refusal-place-room, refusal-end-room, refusal-written}
+use Rattle.records.proofs.ReportLaws.{refusal_length, refusal_place_room, refusal_end_room, refusal_written}
 use Rattle.records.proofs.ReportLaws.{within_none, within_some}
 use Rattle.records.proofs.listing.write_refusal.Goals as goal
 
@@ -45,7 +45,7 @@ write_decimal-requires-2 c =
     let m = b in
     let n = m in
     let a = n.args in
-    refusal-place-room a.number a.place a.buffer.now b.write_bytes.ensures w.write_decimal.ensures
+    refusal_place_room a.number a.place a.buffer.now b.write_bytes.ensures w.write_decimal.ensures
     n.decimal_length.ensures m.decimal_length-2.ensures (omega arith)
 
 pub bounds-buffer-end : goal.bounds-buffer-end
@@ -56,7 +56,7 @@ bounds-buffer-end c =
     let m = b in
     let n = m in
     let a = n.args in
-    refusal-end-room a.number a.place a.buffer.now b.write_bytes.ensures w.write_decimal.ensures
+    refusal_end_room a.number a.place a.buffer.now b.write_bytes.ensures w.write_decimal.ensures
     n.decimal_length.ensures m.decimal_length-2.ensures (omega arith) p.write_decimal-2.ensures
 
 pub returns : goal.returns
@@ -72,6 +72,6 @@ returns c =
     omega (arith, refusal_length a.number a.place, n.decimal_length.ensures, m.decimal_length-2.ensures) in
     let room = length a.buffer.now in
     let all = done_answers (within room line) a.buffer.now (within_some room line (omega arith)) size
-    (refusal-written a.number a.place a.buffer.now b.write_bytes.ensures w.write_decimal.ensures
+    (refusal_written a.number a.place a.buffer.now b.write_bytes.ensures w.write_decimal.ensures
     n.decimal_length.ensures m.decimal_length-2.ensures (omega arith) p.write_decimal-2.ensures
     ∙ written_stored a.buffer.now line) in record { answer = all.0; bytes = all.1; }

@@ -8,9 +8,9 @@ use Rattle.decimal.proofs.NumberLaws.{
   scaled_too_long,
   scaled_zero,
   scaled_shifted,
-  shifted-below,
-  shifted-above,
-  shifted-done,
+  shifted_below,
+  shifted_above,
+  shifted_done,
   number_path,
 }
 use Rattle.decimal.proofs.number.Number.from_scaled.Goals as goal
@@ -34,7 +34,7 @@ returns-then-high-low c =
     c.refused-then-high-low.ensures
     ∙ sym
     (scaled_shifted a.place a.negative a.whole a.up a.down (omega arith) (omega arith)
-    ∙ shifted-below a.place a.negative a.whole a.up a.down (leading_zeros precision a.whole) (omega arith))
+    ∙ shifted_below a.place a.negative a.whole a.up a.down (leading_zeros precision a.whole) (omega arith))
 
 pub returns-then-high-low-gt-EXPONENT_TOP : goal.returns-then-high-low-gt-EXPONENT_TOP
 returns-then-high-low-gt-EXPONENT_TOP c =
@@ -44,7 +44,7 @@ returns-then-high-low-gt-EXPONENT_TOP c =
     c.refused-then-high-low-gt-EXPONENT_TOP.ensures
     ∙ sym
     (scaled_shifted a.place a.negative a.whole a.up a.down (omega arith) (omega arith)
-    ∙ shifted-above a.place a.negative a.whole a.up a.down (leading_zeros precision a.whole) (omega arith) (omega arith))
+    ∙ shifted_above a.place a.negative a.whole a.up a.down (leading_zeros precision a.whole) (omega arith) (omega arith))
 
 pub returns : goal.returns
 returns c =
@@ -54,4 +54,4 @@ returns c =
     ap {B = Answer Number} done (number_path refl l.shift_left-shifted.ensures.1 (omega arith))
     ∙ sym
     (scaled_shifted a.place a.negative a.whole a.up a.down (omega arith) (omega arith)
-    ∙ shifted-done a.place a.negative a.whole a.up a.down (leading_zeros precision a.whole) (omega arith) (omega arith))
+    ∙ shifted_done a.place a.negative a.whole a.up a.down (leading_zeros precision a.whole) (omega arith) (omega arith))
