@@ -64,12 +64,10 @@ fn is_call(line: &[u8]) -> bool {
     if 8 < word(line, 0).len() {
         return false;
     }
-    let mut i = 1;
-    while i < 5 {
+    for i in 1..5 {
         if !is_bytes(word(line, i)) {
             return false;
         }
-        i += 1;
     }
     true
 }
