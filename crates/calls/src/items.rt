@@ -52,14 +52,12 @@ pub(crate) fn numbers_in(bytes: &[u8]) -> Numbers {
     let mut values = [Number::ZERO; COLUMNS];
     let count = bytes.len() / ITEM;
     let mut at = 0;
-    let mut i = 0;
-    while i < COLUMNS {
+    for i in 0..COLUMNS {
         if bytes.len() - at < ITEM {
             return Numbers { values, count };
         }
         values[i] = number_of(element_at(bytes, at));
         at += ITEM;
-        i += 1;
     }
     Numbers { values, count }
 }
@@ -73,14 +71,12 @@ pub(crate) fn element_count(bytes: &[u8]) -> usize {
 pub(crate) fn elements_in(bytes: &[u8]) -> [Element; ELEMENTS] {
     let mut elements = [Element::Number(Number::ZERO); ELEMENTS];
     let mut at = 0;
-    let mut i = 0;
-    while i < ELEMENTS {
+    for i in 0..ELEMENTS {
         if bytes.len() - at < ITEM {
             return elements;
         }
         elements[i] = element_at(bytes, at);
         at += ITEM;
-        i += 1;
     }
     elements
 }
@@ -89,10 +85,8 @@ pub(crate) fn elements_in(bytes: &[u8]) -> [Element; ELEMENTS] {
 pub(crate) fn positions_in(bytes: &[u8]) -> Positions {
     let elements = elements_in(bytes);
     let mut values = [Number::ZERO; POSITIONS];
-    let mut i = 0;
-    while i < POSITIONS {
+    for i in 0..POSITIONS {
         values[i] = number_of(elements[i]);
-        i += 1;
     }
     Positions {
         values,

@@ -9,218 +9,252 @@ use codec::{TextAnswer, WalkAnswer};
 use decimal::{Image, ImageAnswer, NumberAnswer, Order, OrderAnswer, RemainderAnswer, Sign};
 use records::{AddAnswer, ForecastAnswer, PrintAnswer, ShowAnswer};
 use rolls::FindAnswer;
+use std::io;
+use std::io::Write;
 
 // pack BUFFER CONTENTS NUMBERS
-pub(crate) fn pack(buffer: &mut [u8], contents: &[u8], numbers: &[u8]) {
+pub(crate) fn pack(
+    out: &mut impl Write,
+    buffer: &mut [u8],
+    contents: &[u8],
+    numbers: &[u8],
+) -> io::Result<()> {
     let answer = codec::pack(contents, numbers_in(numbers), &mut *buffer);
-    print_written(answer, &*buffer);
+    print_written(out, answer, &*buffer)
 }
 
 // cutoff BUFFER CONTENTS NUMBERS: as pack, and what truncation cut off each number.
-pub(crate) fn cutoff(buffer: &mut [u8], contents: &[u8], numbers: &[u8]) {
+pub(crate) fn cutoff(
+    out: &mut impl Write,
+    buffer: &mut [u8],
+    contents: &[u8],
+    numbers: &[u8],
+) -> io::Result<()> {
     let packed = codec::pack_with_remainders(contents, numbers_in(numbers), &mut *buffer);
     let answer = packed.answer;
-    print_written(answer, &*buffer);
+    print_written(out, answer, &*buffer)?;
     let remainders = packed.remainders;
-    print_remainders(remainders);
+    print_remainders(out, remainders)
 }
 
 // unpack CONTENTS BODY
-pub(crate) fn unpack(contents: &[u8], body: &[u8]) {
+pub(crate) fn unpack(out: &mut impl Write, contents: &[u8], body: &[u8]) -> io::Result<()> {
     let unpacked = codec::unpack(contents, body);
     let answer = unpacked.answer;
-    print_check(answer);
+    print_check(out, answer)?;
     let numbers = unpacked.numbers;
-    print_numbers(numbers);
+    print_numbers(out, numbers)
 }
 
 // alpha BUFFER IMAGE NUMBER
-pub(crate) fn alpha(buffer: &mut [u8], image: &[u8], number: &[u8]) {
+pub(crate) fn alpha(
+    out: &mut impl Write,
+    buffer: &mut [u8],
+    image: &[u8],
+    number: &[u8],
+) -> io::Result<()> {
     let answer = codec::write_alpha(image, number_in(number), &mut *buffer);
-    print_written(answer, &*buffer);
+    print_written(out, answer, &*buffer)
 }
 
 // legal TEXT
-pub(crate) fn legal(text: &[u8]) {
-    print_raw(b"ok");
-    print_count(codec::legal_length(text));
+pub(crate) fn legal(out: &mut impl Write, text: &[u8]) -> io::Result<()> {
+    print_raw(out, b"ok")?;
+    print_count(out, codec::legal_length(text))
 }
 
 // read TEXT: the number, and the bytes used.
-pub(crate) fn read(text: &[u8]) {
+pub(crate) fn read(out: &mut impl Write, text: &[u8]) -> io::Result<()> {
     match codec::read_text_number(text) {
-        TextAnswer::Refused(refusal) => print_refusal(refusal),
+        TextAnswer::Refused(refusal) => print_refusal(out, refusal),
         TextAnswer::Number(number, used) => {
-            print_number(NumberAnswer::Number(number));
-            print_count(used);
+            print_number(out, NumberAnswer::Number(number))?;
+            print_count(out, used)
         }
     }
 }
 
 // place TEXT FROM
-pub(crate) fn place(text: &[u8], from: &[u8]) {
-    print_raw(b"ok");
-    print_count(codec::next_number_place(text, whole(from)));
+pub(crate) fn place(out: &mut impl Write, text: &[u8], from: &[u8]) -> io::Result<()> {
+    print_raw(out, b"ok")?;
+    print_count(out, codec::next_number_place(text, whole(from)))
 }
 
 // numbers TEXT FROM
-pub(crate) fn numbers(text: &[u8], from: &[u8]) {
+pub(crate) fn numbers(out: &mut impl Write, text: &[u8], from: &[u8]) -> io::Result<()> {
     let walked = codec::read_text_numbers(text, whole(from));
     let answer = walked.answer;
     match answer {
-        WalkAnswer::End => print_raw(b"end"),
-        WalkAnswer::NoNumber => print_raw(b"none"),
-        WalkAnswer::TooMany => print_raw(b"many"),
-        WalkAnswer::Refused(refusal) => print_refusal(refusal),
+        WalkAnswer::End => print_raw(out, b"end")?,
+        WalkAnswer::NoNumber => print_raw(out, b"none")?,
+        WalkAnswer::TooMany => print_raw(out, b"many")?,
+        WalkAnswer::Refused(refusal) => print_refusal(out, refusal)?,
     }
-    print_count(walked.place);
+    print_count(out, walked.place)?;
     let numbers = walked.numbers;
-    print_numbers(numbers);
+    print_numbers(out, numbers)
 }
 
 // scan LINE AT
-pub(crate) fn scan(line: &[u8], at: &[u8]) {
-    print_raw(b"ok");
-    print_count(records::scan(line, whole(at)));
+pub(crate) fn scan(out: &mut impl Write, line: &[u8], at: &[u8]) -> io::Result<()> {
+    print_raw(out, b"ok")?;
+    print_count(out, records::scan(line, whole(at)))
 }
 
 // print BUFFER LINE ELEMENTS TEXTS
-pub(crate) fn print(buffer: &mut [u8], line: &[u8], elements: &[u8], texts: &[u8]) {
+pub(crate) fn print(
+    out: &mut impl Write,
+    buffer: &mut [u8],
+    line: &[u8],
+    elements: &[u8],
+    texts: &[u8],
+) -> io::Result<()> {
     let count = element_count(elements);
     match records::print(line, elements_in(elements), count, texts, &mut *buffer) {
-        PrintAnswer::Refused(refusal) => print_refusal(refusal),
+        PrintAnswer::Refused(refusal) => print_refusal(out, refusal)?,
         PrintAnswer::Printed(length, spilled) => {
-            print_raw(b"ok");
-            print_bytes(front(&*buffer, length));
-            print_count(spilled);
+            print_raw(out, b"ok")?;
+            print_bytes(out, front(&*buffer, length))?;
+            print_count(out, spilled)?;
         }
     }
-    print_buffer(&*buffer);
+    print_buffer(out, &*buffer)
 }
 
 // forecast LENGTH COUNT
-pub(crate) fn forecast(length: &[u8], count: &[u8]) {
+pub(crate) fn forecast(out: &mut impl Write, length: &[u8], count: &[u8]) -> io::Result<()> {
     match records::forecast(whole(length), whole(count)) {
-        ForecastAnswer::Refused(refusal) => print_refusal(refusal),
+        ForecastAnswer::Refused(refusal) => print_refusal(out, refusal),
         ForecastAnswer::Bytes(bytes) => {
-            print_raw(b"ok");
-            print_count(bytes);
+            print_raw(out, b"ok")?;
+            print_count(out, bytes)
         }
     }
 }
 
 // contents BUFFER CONTENTS
-pub(crate) fn contents(buffer: &mut [u8], contents: &[u8]) {
+pub(crate) fn contents(out: &mut impl Write, buffer: &mut [u8], contents: &[u8]) -> io::Result<()> {
     let answer = records::write_contents(contents, &mut *buffer);
-    print_written(answer, &*buffer);
+    print_written(out, answer, &*buffer)
 }
 
 // add BUFFER USED NUMBERS
-pub(crate) fn add(buffer: &mut [u8], used: &[u8], numbers: &[u8]) {
+pub(crate) fn add(
+    out: &mut impl Write,
+    buffer: &mut [u8],
+    used: &[u8],
+    numbers: &[u8],
+) -> io::Result<()> {
     match records::add(whole(used), numbers_in(numbers), &mut *buffer) {
-        AddAnswer::Refused(refusal) => print_refusal(refusal),
+        AddAnswer::Refused(refusal) => print_refusal(out, refusal)?,
         AddAnswer::Added(length) => {
-            print_raw(b"ok");
-            print_count(length);
+            print_raw(out, b"ok")?;
+            print_count(out, length)?;
         }
     }
-    print_buffer(&*buffer);
+    print_buffer(out, &*buffer)
 }
 
 // show FILE R: the place of the body, and the body.
-pub(crate) fn show(file: &[u8], index: &[u8]) {
+pub(crate) fn show(out: &mut impl Write, file: &[u8], index: &[u8]) -> io::Result<()> {
     let record = whole(index);
     match records::show(file, record) {
-        ShowAnswer::Refused(refusal) => print_refusal(refusal),
+        ShowAnswer::Refused(refusal) => print_refusal(out, refusal)?,
         ShowAnswer::Shown(start, length) => {
-            print_raw(b"ok");
-            print_count(start);
-            print_count(length);
+            print_raw(out, b"ok")?;
+            print_count(out, start)?;
+            print_count(out, length)?;
         }
     }
-    print_bytes(records::shown_body(file, record));
+    print_bytes(out, records::shown_body(file, record))
 }
 
 // list BUFFER FILE
-pub(crate) fn list(buffer: &mut [u8], file: &[u8]) {
+pub(crate) fn list(out: &mut impl Write, buffer: &mut [u8], file: &[u8]) -> io::Result<()> {
     let answer = records::list(file, &mut *buffer);
-    print_written(answer, &*buffer);
+    print_written(out, answer, &*buffer)
 }
 
 // report BUFFER FILE
-pub(crate) fn report(buffer: &mut [u8], file: &[u8]) {
+pub(crate) fn report(out: &mut impl Write, buffer: &mut [u8], file: &[u8]) -> io::Result<()> {
     let answer = records::report(file, &mut *buffer);
-    print_written(answer, &*buffer);
+    print_written(out, answer, &*buffer)
 }
 
 // find FILE POSITIONS: the count of comparisons, and the record numbers, those past the last position too.
-pub(crate) fn find(file: &[u8], positions: &[u8]) {
+pub(crate) fn find(out: &mut impl Write, file: &[u8], positions: &[u8]) -> io::Result<()> {
     let found = rolls::find(file, positions_in(positions));
     let answer = found.answer;
     match answer {
-        FindAnswer::Refused(refusal) => print_refusal(refusal),
+        FindAnswer::Refused(refusal) => print_refusal(out, refusal)?,
         FindAnswer::Found(comparisons) => {
-            print_raw(b"ok");
-            print_count(comparisons);
+            print_raw(out, b"ok")?;
+            print_count(out, comparisons)?;
         }
     }
     let records = found.records;
-    print_counts(&records);
+    print_counts(out, &records)
 }
 
 // compare NUMBER NUMBER
-pub(crate) fn compare(first: &[u8], second: &[u8]) {
+pub(crate) fn compare(out: &mut impl Write, first: &[u8], second: &[u8]) -> io::Result<()> {
     match decimal::compare(number_in(first), number_in(second)) {
-        OrderAnswer::Refused(refusal) => print_refusal(refusal),
+        OrderAnswer::Refused(refusal) => print_refusal(out, refusal),
         OrderAnswer::Order(order) => match order {
-            Order::Less => print_raw(b"ok less"),
-            Order::Equal => print_raw(b"ok equal"),
-            Order::Greater => print_raw(b"ok greater"),
+            Order::Less => print_raw(out, b"ok less"),
+            Order::Equal => print_raw(out, b"ok equal"),
+            Order::Greater => print_raw(out, b"ok greater"),
         },
     }
 }
 
 // Writes an image.
-fn print_image(image: Image) {
+fn print_image(out: &mut impl Write, image: Image) -> io::Result<()> {
     let sign = image.sign;
     match sign {
-        Sign::Unsigned => print_raw(b"ok unsigned"),
-        Sign::Plus => print_raw(b"ok plus"),
-        Sign::Minus => print_raw(b"ok minus"),
+        Sign::Unsigned => print_raw(out, b"ok unsigned")?,
+        Sign::Plus => print_raw(out, b"ok plus")?,
+        Sign::Minus => print_raw(out, b"ok minus")?,
     }
-    print_count(image.integer as usize);
-    print_count(image.fraction as usize);
+    print_count(out, image.integer as usize)?;
+    print_count(out, image.fraction as usize)?;
     if image.exponential {
-        print_raw(b" exponential");
+        print_raw(out, b" exponential")?;
     }
+    Ok(())
 }
 
 // image IMAGE PLACE
-pub(crate) fn image(bytes: &[u8], place: &[u8]) {
+pub(crate) fn image(out: &mut impl Write, bytes: &[u8], place: &[u8]) -> io::Result<()> {
     match decimal::read_image(bytes, whole(place)) {
-        ImageAnswer::Refused(refusal) => print_refusal(refusal),
-        ImageAnswer::Image(image) => print_image(image),
+        ImageAnswer::Refused(refusal) => print_refusal(out, refusal),
+        ImageAnswer::Image(image) => print_image(out, image),
     }
 }
 
 // truncate IMAGE NUMBER PLACE: the number's truncation and its parts, whether the number packs, and what is cut off.
-pub(crate) fn truncate(bytes: &[u8], number: &[u8], place: &[u8]) {
+pub(crate) fn truncate(
+    out: &mut impl Write,
+    bytes: &[u8],
+    number: &[u8],
+    place: &[u8],
+) -> io::Result<()> {
     let at = whole(place);
     let value = number_in(number);
     match decimal::read_image(bytes, at) {
-        ImageAnswer::Refused(refusal) => print_refusal(refusal),
+        ImageAnswer::Refused(refusal) => print_refusal(out, refusal),
         ImageAnswer::Image(image) => {
-            print_number(decimal::truncated(image, value, at));
+            print_number(out, decimal::truncated(image, value, at))?;
             let parts = decimal::truncate(image, value, at);
-            print_parts(parts.negative, parts.halves, parts.x);
-            print_raw(b" packing ");
-            print_check(decimal::fit_packed(image, value, at));
-            print_raw(b" cut off ");
+            print_parts(out, parts.negative, parts.halves, parts.x)?;
+            print_raw(out, b" packing ")?;
+            print_check(out, decimal::fit_packed(image, value, at))?;
+            print_raw(out, b" cut off ")?;
             match decimal::remainder_of(image, value, at) {
-                RemainderAnswer::Refused(refusal) => print_refusal(refusal),
+                RemainderAnswer::Refused(refusal) => print_refusal(out, refusal),
                 RemainderAnswer::Remainder(remainder) => {
-                    print_raw(b"ok");
-                    print_remainder(remainder);
+                    print_raw(out, b"ok")?;
+                    print_remainder(out, remainder)
                 }
             }
         }

@@ -10,6 +10,8 @@ mod words;
 use crate::shown::{print_damaged, print_number, print_raw};
 use crate::words::{decode, end_at, front, is_bytes, whole, word};
 use console::Input;
+use std::io;
+use std::io::{BufWriter, Write};
 
 // An input of so many bytes is too long: it has one answer, ?.
 const INPUT: usize = 1 << 18;
@@ -19,31 +21,38 @@ const SPACE: usize = 8192;
 
 // Makes a call. Its name stands as the whole number that its bytes are: compare, image, truncate; pack, cutoff, unpack, alpha, legal, read,
 // convert, place, numbers; scan, print, forecast, field; contents, add, show, list, report; find.
-fn make(name: usize, first: &mut [u8], second: &[u8], third: &[u8], fourth: &[u8]) {
+fn make(
+    out: &mut impl Write,
+    name: usize,
+    first: &mut [u8],
+    second: &[u8],
+    third: &[u8],
+    fourth: &[u8],
+) -> io::Result<()> {
     match name {
-        0x636f6d70617265 => layers::compare(&*first, second),
-        0x696d616765 => layers::image(&*first, second),
-        0x7472756e63617465 => layers::truncate(&*first, second, third),
-        0x7061636b => layers::pack(first, second, third),
-        0x6375746f6666 => layers::cutoff(first, second, third),
-        0x756e7061636b => layers::unpack(&*first, second),
-        0x616c706861 => layers::alpha(first, second, third),
-        0x6c6567616c => layers::legal(&*first),
-        0x72656164 => layers::read(&*first),
-        0x636f6e76657274 => print_number(codec::convert(&*first)),
-        0x706c616365 => layers::place(&*first, second),
-        0x6e756d62657273 => layers::numbers(&*first, second),
-        0x7363616e => layers::scan(&*first, second),
-        0x7072696e74 => layers::print(first, second, third, fourth),
-        0x666f726563617374 => layers::forecast(&*first, second),
-        0x6669656c64 => print_number(records::read_field(&*first)),
-        0x636f6e74656e7473 => layers::contents(first, second),
-        0x616464 => layers::add(first, second, third),
-        0x73686f77 => layers::show(&*first, second),
-        0x6c697374 => layers::list(first, second),
-        0x7265706f7274 => layers::report(first, second),
-        0x66696e64 => layers::find(&*first, second),
-        _ => print_damaged(),
+        0x636f6d70617265 => layers::compare(out, &*first, second),
+        0x696d616765 => layers::image(out, &*first, second),
+        0x7472756e63617465 => layers::truncate(out, &*first, second, third),
+        0x7061636b => layers::pack(out, first, second, third),
+        0x6375746f6666 => layers::cutoff(out, first, second, third),
+        0x756e7061636b => layers::unpack(out, &*first, second),
+        0x616c706861 => layers::alpha(out, first, second, third),
+        0x6c6567616c => layers::legal(out, &*first),
+        0x72656164 => layers::read(out, &*first),
+        0x636f6e76657274 => print_number(out, codec::convert(&*first)),
+        0x706c616365 => layers::place(out, &*first, second),
+        0x6e756d62657273 => layers::numbers(out, &*first, second),
+        0x7363616e => layers::scan(out, &*first, second),
+        0x7072696e74 => layers::print(out, first, second, third, fourth),
+        0x666f726563617374 => layers::forecast(out, &*first, second),
+        0x6669656c64 => print_number(out, records::read_field(&*first)),
+        0x636f6e74656e7473 => layers::contents(out, first, second),
+        0x616464 => layers::add(out, first, second, third),
+        0x73686f77 => layers::show(out, &*first, second),
+        0x6c697374 => layers::list(out, first, second),
+        0x7265706f7274 => layers::report(out, first, second),
+        0x66696e64 => layers::find(out, &*first, second),
+        _ => print_damaged(out),
     }
 }
 
@@ -55,65 +64,73 @@ fn is_call(line: &[u8]) -> bool {
     if 8 < word(line, 0).len() {
         return false;
     }
-    let mut i = 1;
-    while i < 5 {
+    for i in 1..5 {
         if !is_bytes(word(line, i)) {
             return false;
         }
-        i += 1;
     }
     true
 }
 
 // Answers a line.
-fn answer_line(line: &[u8]) {
+fn answer_line(out: &mut impl Write, line: &[u8]) -> io::Result<()> {
     let mut first = [0u8; SPACE];
     let mut second = [0u8; SPACE];
     let mut third = [0u8; SPACE];
     let mut fourth = [0u8; SPACE];
     if !is_call(line) {
-        print_damaged();
-        return;
+        return print_damaged(out);
     }
     let a = decode(word(line, 1), &mut first);
     let b = decode(word(line, 2), &mut second);
     let c = decode(word(line, 3), &mut third);
     let d = decode(word(line, 4), &mut fourth);
     if SPACE < a {
-        return;
+        return Ok(());
     }
     make(
+        out,
         whole(word(line, 0)),
         &mut first[..a],
         front(&second, b),
         front(&third, c),
         front(&fourth, d),
-    );
+    )
 }
 
 // Answers all lines.
-fn answer_lines(input: &[u8]) {
+fn answer_lines(out: &mut impl Write, input: &[u8]) -> io::Result<()> {
     let mut start = 0;
     while start < input.len() {
         let end = end_at(input, start, b'\n');
-        answer_line(&input[start..end]);
-        print_raw(b"\n");
+        answer_line(out, &input[start..end])?;
+        print_raw(out, b"\n")?;
         if end == input.len() {
-            return;
+            return Ok(());
         }
         start = end + 1;
     }
+    Ok(())
+}
+
+// Answers the input to standard output.
+fn answer_input(rt: &(impl Print + AllocGlobal), input: &[u8]) -> io::Result<()> {
+    let mut out = BufWriter::new(rt.alloc(), io::writer(rt))?;
+    if input.len() == INPUT {
+        print_raw(&mut out, b"?\n")?;
+    } else {
+        answer_lines(&mut out, input)?;
+    }
+    out.flush()
 }
 
 // Reads the input, and answers it.
-fn main() {
+fn main(rt: HostRuntime) {
     let mut input = [0u8; INPUT];
-    let Input::Bytes(size) = console::read_input(&mut input) else {
+    let Input::Bytes(size) = console::read_input(&rt, &mut input) else {
         return;
     };
-    if size == INPUT {
-        print_raw(b"?\n");
-        return;
+    if answer_input(&rt, front(&input, size)).is_err() {
+        console::tell_failed_write(&rt);
     }
-    answer_lines(front(&input, size));
 }

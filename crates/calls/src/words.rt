@@ -27,14 +27,12 @@ pub(crate) fn end_at(bytes: &[u8], start: usize, mark: u8) -> usize
 // The word of a line with an index from 0; no bytes where there is none.
 pub(crate) fn word(line: &[u8], index: usize) -> &[u8] {
     let mut start = 0;
-    let mut left = index;
-    while 0 < left {
+    for _ in 0..index {
         let end = end_at(line, start, b' ');
         if end == line.len() {
             return &line[end..end];
         }
         start = end + 1;
-        left -= 1;
     }
     let end = end_at(line, start, b' ');
     &line[start..end]
@@ -54,12 +52,10 @@ pub(crate) fn is_bytes(word: &[u8]) -> bool {
     if word.len() == 1 {
         return word[0] == b'.';
     }
-    let mut i = 0;
-    while i < word.len() {
-        if !is_digit(word[i]) {
+    for byte in word {
+        if !is_digit(*byte) {
             return false;
         }
-        i += 1;
     }
     word.len() % 2 == 0
 }
@@ -103,10 +99,8 @@ fn wide(byte: u8) -> usize {
 // The whole number that bytes are, the first highest; of more than eight the last eight count.
 pub(crate) fn whole(bytes: &[u8]) -> usize {
     let mut value: usize = 0;
-    let mut i = 0;
-    while i < bytes.len() {
-        value = (value << 8) | wide(bytes[i]);
-        i += 1;
+    for byte in bytes {
+        value = (value << 8) | wide(*byte);
     }
     value
 }

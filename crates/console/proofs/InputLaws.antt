@@ -2,8 +2,7 @@
 use Prim.Native.Nat.{ℕ}
 use mathlib.Core.Path.{◌≡◌, subst}
 use mathlib.Core.List.{List}
-use Rattle.io.specs.Counts.{IsPrefixLen}
-use Rattle.console.specs.Within.{Within}
+use Rattle.console.specs.Within.{IsPrefixLen, Within}
 use Rattle.console.specs.declared.Input.{Input}
 use Rattle.console.specs.declared.Input.TheVariants as gives
 

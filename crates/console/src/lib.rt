@@ -3,9 +3,10 @@
 #![tactic(auto)]
 
 ghost use Rattle.std.specs.Prelude.{◌≡◌, true, length};
-ghost use Rattle.console.specs.Within.{Within};
+ghost use Rattle.console.specs.Within.{Within, Reads};
 
-use libc::{STDERR_FILENO, STDIN_FILENO, STDOUT_FILENO};
+use std::io;
+use std::io::Read;
 
 // What reading gave: so many bytes at the start of a buffer, or that a read failed.
 #[derive(Clone, Copy)]
@@ -14,41 +15,53 @@ pub enum Input {
     Failed,
 }
 
-// Reads standard input until it ends or the buffer is full; a failed read is told.
-pub fn read_input(buffer: &mut [u8]) -> Input
-    ensures { Within result buffer.new }
+// Reads until the reader ends or the buffer is full.
+pub fn read_from<R: Read>(reader: &mut R, buffer: &mut [u8]) -> Input
+    ensures within { Within result buffer.new }
+    ensures bytes { Reads (R.remaining reader.old) (R.remaining reader.new) result buffer.new }
 {
     let mut size = 0;
     while size < buffer.len() {
-        let got = libc::read(STDIN_FILENO, &mut buffer[size..]);
-        if got < 0 {
-            tell(b"reading standard input failed\n");
-            return Input::Failed;
+        match reader.read(&mut buffer[size..]) {
+            Ok(0) => return Input::Bytes(size),
+            Ok(more) => size += more,
+            Err(_) => return Input::Failed,
         }
-        let more = io::count(got, &buffer[size..]);
-        if more == 0 {
-            return Input::Bytes(size);
-        }
-        size += more;
     }
     Input::Bytes(size)
 }
 
+// Reads standard input until it ends or the buffer is full; a failed read is told.
+pub fn read_input(rt: &(impl io::Input + Eprint), buffer: &mut [u8]) -> Input
+    ensures { Within result buffer.new }
+{
+    let input = read_from(&mut rt.reader(), buffer);
+    if let Input::Failed = input {
+        tell(rt, "reading standard input failed\n");
+    }
+    input
+}
+
 // Writes bytes to standard output, and gives whether all are written, as no bytes are from the start; a failed write is told.
-pub fn write_output(bytes: &[u8]) -> bool
+pub fn write_output(rt: &(impl Print + Eprint), bytes: &[u8]) -> bool
     ensures { length bytes.now ≡ 0 → result ≡ true }
 {
     if bytes.len() == 0 {
         return true;
     }
-    if io::write_all(STDOUT_FILENO, bytes) {
+    if rt.write_all(bytes).is_ok() {
         return true;
     }
-    tell(b"writing standard output failed\n");
+    tell_failed_write(rt);
     false
 }
 
-// Writes a line to standard error.
-fn tell(line: &[u8]) {
-    io::write_all(STDERR_FILENO, line);
+// Tells a failed write.
+pub fn tell_failed_write(rt: &impl Eprint) {
+    tell(rt, "writing standard output failed\n");
+}
+
+// Writes a line to standard error, where that can be written.
+fn tell(rt: &impl Eprint, line: &str) {
+    let _ = rt.eprint(line);
 }

@@ -19,7 +19,7 @@ fn add_position(position: NumberAnswer, used: usize, file: &mut [u8]) -> usize {
 }
 
 // One column of steps and hundredths, then the records.
-fn main() {
+fn main(rt: HostRuntime) {
     let mut file = [0u8; 64];
     let contents = records::write_contents(b"\x01\x0b########.##", &mut file);
     let used = codec::written_part(contents, &file).len();
@@ -30,5 +30,5 @@ fn main() {
         &mut file,
     );
     let used = add_position(Number::from_steps(16_777_217), used, &mut file);
-    console::write_output(codec::written_part(WriteAnswer::Written(used), &file));
+    console::write_output(&rt, codec::written_part(WriteAnswer::Written(used), &file));
 }

@@ -8,12 +8,12 @@ use console::Input;
 const INPUT_LENGTH: usize = records::FILE_LENGTH + 1;
 
 // Reads the input, and writes its report.
-fn main() {
+fn main(rt: HostRuntime) {
     let mut input = [0u8; INPUT_LENGTH];
-    let Input::Bytes(size) = console::read_input(&mut input) else {
+    let Input::Bytes(size) = console::read_input(&rt, &mut input) else {
         return;
     };
     let mut output = [0u8; records::REPORT_LENGTH];
     let answer = records::report(&input[..size], &mut output);
-    console::write_output(codec::written_part(answer, &output));
+    console::write_output(&rt, codec::written_part(answer, &output));
 }

@@ -4,6 +4,8 @@ ghost use Rattle.std.specs.Prelude.{◌≤◌, length};
 use crate::shown::{ROOM, print_bytes, print_count, print_quoted, print_raw, print_refusal};
 use decimal::{Number, NumberAnswer};
 use records::{ELEMENTS, Element, PrintAnswer};
+use std::io;
+use std::io::Write;
 
 // The end of the element that starts at a place of a list: the next semicolon, or the list's end.
 fn element_end(list: &[u8], start: usize) -> usize
@@ -31,21 +33,27 @@ fn element_at(list: &[u8], start: usize, end: usize) -> Element
 }
 
 // Prints a line with elements, and writes the printed lines, each between quotes, and the spilled count; or the refusal.
-fn print_line(line: &[u8], elements: [Element; ELEMENTS], count: usize, list: &[u8]) {
+fn print_line(
+    out: &mut impl Write,
+    line: &[u8],
+    elements: [Element; ELEMENTS],
+    count: usize,
+    list: &[u8],
+) -> io::Result<()> {
     let mut buffer = [0u8; ROOM];
     match records::print(line, elements, count, list, &mut buffer) {
-        PrintAnswer::Refused(refusal) => print_refusal(refusal),
+        PrintAnswer::Refused(refusal) => print_refusal(out, refusal),
         PrintAnswer::Printed(size, spilled) => {
-            print_raw(b"'");
-            print_bytes(buffer, size, false);
-            print_raw(b"', spilled ");
-            print_count(spilled);
+            print_raw(out, b"'")?;
+            print_bytes(out, buffer, size, false)?;
+            print_raw(out, b"', spilled ")?;
+            print_count(out, spilled)
         }
     }
 }
 
 // Prints a line with the elements of a list, which are parted by semicolons; past ELEMENTS the list is not read.
-fn print_list(line: &[u8], list: &[u8]) {
+fn print_list(out: &mut impl Write, line: &[u8], list: &[u8]) -> io::Result<()> {
     let mut elements = [Element::Number(Number::ZERO); ELEMENTS];
     let mut count = 0;
     let mut start = 0;
@@ -58,27 +66,27 @@ fn print_list(line: &[u8], list: &[u8]) {
         count += 1;
         start = end + 1;
     }
-    print_line(line, elements, count, list)
+    print_line(out, line, elements, count, list)
 }
 
 // Writes a row: a line image, a list of elements, and what the line prints with them.
-pub(crate) fn line_row(line: &[u8], list: &[u8]) {
-    print_quoted(line);
-    print_raw(b" with ");
-    print_quoted(list);
-    print_raw(b": ");
-    print_list(line, list);
-    print_raw(b"\n");
+pub(crate) fn line_row(out: &mut impl Write, line: &[u8], list: &[u8]) -> io::Result<()> {
+    print_quoted(out, line)?;
+    print_raw(out, b" with ")?;
+    print_quoted(out, list)?;
+    print_raw(out, b": ")?;
+    print_list(out, line, list)?;
+    print_raw(out, b"\n")
 }
 
 // Writes a blank and a field between quotes.
-fn print_field(field: &[u8]) {
-    print_raw(b" ");
-    print_quoted(field);
+fn print_field(out: &mut impl Write, field: &[u8]) -> io::Result<()> {
+    print_raw(out, b" ")?;
+    print_quoted(out, field)
 }
 
 // Writes the fields of a line.
-fn print_fields(line: &[u8]) {
+fn print_fields(out: &mut impl Write, line: &[u8]) -> io::Result<()> {
     let mut at = 0;
     while at < line.len() {
         let length = records::scan(line, at);
@@ -86,16 +94,17 @@ fn print_fields(line: &[u8]) {
             at += 1;
         } else {
             let end = at + length;
-            print_field(&line[at..end]);
+            print_field(out, &line[at..end])?;
             at = end;
         }
     }
+    Ok(())
 }
 
 // Writes a row: a line image and its fields.
-pub(crate) fn fields_row(line: &[u8]) {
-    print_quoted(line);
-    print_raw(b": fields");
-    print_fields(line);
-    print_raw(b"\n");
+pub(crate) fn fields_row(out: &mut impl Write, line: &[u8]) -> io::Result<()> {
+    print_quoted(out, line)?;
+    print_raw(out, b": fields")?;
+    print_fields(out, line)?;
+    print_raw(out, b"\n")
 }

@@ -14,311 +14,355 @@ use crate::columns::{body_row, cut_row, image_row, size_row};
 use crate::lines::{fields_row, line_row};
 use crate::pages::page_row;
 use crate::texts::{long_row, read_row, text_row};
+use std::io;
+use std::io::{BufWriter, Write};
 
 // Known values, those marked * too, and one row each of refusals 2 and 1.
-fn known_images() {
+fn known_images(out: &mut impl Write) -> io::Result<()> {
     // 000, CONVERT, four examples. For the first and the fourth, 004 writes the images 000 and 0000.#####: in its dialect a 0 keeps a
     // leading zero and a # does not.
-    image_row(b"\x01\x03###", false, 12195, 0, 3);
-    image_row(b"\x01\x06+##.##", false, 2439, 0, 2);
+    image_row(out, b"\x01\x03###", false, 12195, 0, 3)?;
+    image_row(out, b"\x01\x06+##.##", false, 2439, 0, 2)?;
     // Misprint of 000: ' 1.2E+01', 8 bytes under an image of 9. It is what -#.#^^^^ gives, which 004 has.
-    image_row(b"\x01\x09-#.##^^^^", false, 12195, 0, 3);
+    image_row(out, b"\x01\x09-#.##^^^^", false, 12195, 0, 3)?;
     // Misprint of 000: '0012.195000', six digits under five #. 004 has '0012.19500'.
-    image_row(b"\x01\x0a####.#####", false, 12195, 0, 3);
-    image_row(b"\x01\x02+#", true, 3, 0, 1);
-    image_row(b"\x01\x02##", false, 9999, 0, 2);
-    image_row(b"\x01\x02##", false, 1, 2, 0);
-    image_row(b"\x01\x08+#.#^^^^", false, 5, 0, 2);
+    image_row(out, b"\x01\x0a####.#####", false, 12195, 0, 3)?;
+    image_row(out, b"\x01\x02+#", true, 3, 0, 1)?;
+    image_row(out, b"\x01\x02##", false, 9999, 0, 2)?;
+    image_row(out, b"\x01\x02##", false, 1, 2, 0)?;
+    image_row(out, b"\x01\x08+#.#^^^^", false, 5, 0, 2)?;
     // Difference from 000, PACK: it would pack this, the exponent's sign taken to be plus.
-    image_row(b"\x01\x07#.#^^^^", false, 5, 0, 2);
-    image_row(b"\x01\x02##", true, 12, 0, 0);
-    image_row(b"\x01\x03.##", false, 5, 0, 1);
-    image_row(b"\x01\x03.##", false, 1, 0, 0);
-    image_row(b"\x01\x06##^^^^", false, 1, 0, 99);
-    image_row(b"\x01\x0e##############", false, 1, 0, 0);
-    image_row(b"\x01\x02#.", false, 1, 0, 0);
+    image_row(out, b"\x01\x07#.#^^^^", false, 5, 0, 2)?;
+    image_row(out, b"\x01\x02##", true, 12, 0, 0)?;
+    image_row(out, b"\x01\x03.##", false, 5, 0, 1)?;
+    image_row(out, b"\x01\x03.##", false, 1, 0, 0)?;
+    image_row(out, b"\x01\x06##^^^^", false, 1, 0, 99)?;
+    image_row(out, b"\x01\x0e##############", false, 1, 0, 0)?;
+    image_row(out, b"\x01\x02#.", false, 1, 0, 0)
 }
 
 // The manuals' other examples of a number under an image.
-fn manual_images() {
+fn manual_images(out: &mut impl Write) -> io::Result<()> {
     // 000, error 56: 1234 exceeds ##; its correction.
-    image_row(b"\x01\x02##", false, 1234, 0, 0);
-    image_row(b"\x01\x04####", false, 1234, 0, 0);
+    image_row(out, b"\x01\x02##", false, 1234, 0, 0)?;
+    image_row(out, b"\x01\x04####", false, 1234, 0, 0)?;
     // 004, CONVERT.
-    image_row(b"\x01\x08-#.#^^^^", false, 12195, 0, 3);
+    image_row(out, b"\x01\x08-#.#^^^^", false, 12195, 0, 3)?;
     // 004, CONVERT. Difference of dialect: it gives '  10', what document 01 prints under this image and does not convert to.
-    image_row(b"\x01\x04####", false, 10, 0, 0);
+    image_row(out, b"\x01\x04####", false, 10, 0, 0)?;
     // 004, UNPACK.
-    image_row(b"\x01\x04####", false, 24, 0, 0);
+    image_row(out, b"\x01\x04####", false, 24, 0, 0)
 }
 
 // Packed sizes. Difference of dialect: 004 leaves the last half of an odd column as it was; in document 01 it becomes zero.
-fn sizes() {
+fn sizes(out: &mut impl Write) -> io::Result<()> {
     // 000 and 004, PACK. In the text of 000 the first image is lost.
-    size_row(b"\x01\x04####");
-    size_row(b"\x01\x03###");
-    size_row(b"\x01\x07+##.###");
+    size_row(out, b"\x01\x04####")?;
+    size_row(out, b"\x01\x03###")?;
+    size_row(out, b"\x01\x07+##.###")?;
     // Misprint of 000: 3 bytes, for 1 + 4 + 2 halves. 004 has +#.##^^^^, of 3 bytes.
-    size_row(b"\x01\x0a+#.###^^^^");
-    size_row(b"\x01\x09+#.##^^^^");
+    size_row(out, b"\x01\x0a+#.###^^^^")?;
+    size_row(out, b"\x01\x09+#.##^^^^")?;
     // 000, PACK and UNPACK: into STR(A$, 4, 2), so 2 bytes.
-    size_row(b"\x01\x05+#.##");
+    size_row(out, b"\x01\x05+#.##")
 }
 
 // Bodies read.
-fn bodies() {
+fn bodies(out: &mut impl Write) -> io::Result<()> {
     // A known value, marked *.
-    body_row(b"\x01\x02+#", b"\x10");
+    body_row(out, b"\x01\x02+#", b"\x10")?;
     // 004, UNPACK.
-    body_row(b"\x01\x04####", b"\x00\x24");
+    body_row(out, b"\x01\x04####", b"\x00\x24")?;
     // 004, UNPACK: the whole of its variable, with a blank behind the body. Difference of dialect: it reads the first bytes and
     // lets others follow.
-    body_row(b"\x01\x04####", b"\x00\x24\x20");
+    body_row(out, b"\x01\x04####", b"\x00\x24\x20")
 }
 
 // Known values, the example of document 01's Alpha text, and 000's pages CONVERT and NUM.
-fn known_texts() {
+fn known_texts(out: &mut impl Write) -> io::Result<()> {
     // 000, NUM; 004 has the second too.
-    text_row(b"+24.37#JK");
-    text_row(b"98.7+53.6");
+    text_row(out, b"+24.37#JK")?;
+    text_row(out, b"98.7+53.6")?;
     // Document 01.
-    text_row(b"12E99");
+    text_row(out, b"12E99")?;
     // 000 and 004, CONVERT.
-    text_row(b"1234");
+    text_row(out, b"1234")?;
     // 000 and 004, NUM, as a variable of 16 bytes holds them; only the second has length 16 there.
-    text_row(b"123A5           ");
-    text_row(b"12345           ");
+    text_row(out, b"123A5           ")?;
+    text_row(out, b"12345           ")
 }
 
 // The manuals' examples of numeric constants, whose form NUM and CONVERT go by.
-fn constants() {
+fn constants(out: &mut impl Write) -> io::Result<()> {
     // 000, numeric constants.
-    text_row(b"4");
-    text_row(b"-10");
-    text_row(b"1432443");
-    text_row(b"-.7865");
-    text_row(b"24.4563");
-    text_row(b"4.5E7");
+    text_row(out, b"4")?;
+    text_row(out, b"-10")?;
+    text_row(out, b"1432443")?;
+    text_row(out, b"-.7865")?;
+    text_row(out, b"24.4563")?;
+    text_row(out, b"4.5E7")?;
     // 000, not valid.
-    text_row(b"8.7E5.8");
+    text_row(out, b"8.7E5.8")?;
     // In the text of 000 the minus is lost; 004 has it.
-    text_row(b"-103.2E99");
+    text_row(out, b"-103.2E99")?;
     // Mistake of 000: it says that 8.7E-100 is less than E-100. Document 01 refuses it as its e is -100.
-    text_row(b".87E-99");
+    text_row(out, b".87E-99")?;
     // 000, error 20: 14 digits; its correction.
-    text_row(b"12345678.234567");
-    text_row(b"12345678.23456");
+    text_row(out, b"12345678.234567")?;
+    text_row(out, b"12345678.23456")
 }
 
 // 004's examples of constants and of NUM that 000 does not have.
-fn later_constants() {
-    text_row(b"-3E2");
-    text_row(b"2.6E-27");
-    text_row(b"4.5E+07");
+fn later_constants(out: &mut impl Write) -> io::Result<()> {
+    text_row(out, b"-3E2")?;
+    text_row(out, b"2.6E-27")?;
+    text_row(out, b"4.5E+07")?;
     // Difference of dialect: 004 takes blanks anywhere.
-    text_row(b"4.5 E-07");
+    text_row(out, b"4.5 E-07")?;
     // NUM gives 4, and 16 in a variable of 16 bytes. Difference of dialect: 004's numbers end near 7.2E75, so it can't convert these.
-    text_row(b"1E88");
-    text_row(b"1E88            ");
+    text_row(out, b"1E88")?;
+    text_row(out, b"1E88            ")?;
     // NUM gives 0 for blanks.
-    text_row(b"                ");
+    text_row(out, b"                ")
 }
 
 // Document 02, (i): texts with a remark behind the number, and texts without a number.
-fn remarks() {
-    read_row(b"0012.5 torn");
-    read_row(b"12E99 torn");
-    read_row(b"12E99");
-    read_row(b"torn");
-    read_row(b"");
-    read_row(b"   ");
-    read_row(b"1 2");
-    read_row(b"-");
-    read_row(b"12345678901234");
-    long_row();
+fn remarks(out: &mut impl Write) -> io::Result<()> {
+    read_row(out, b"0012.5 torn")?;
+    read_row(out, b"12E99 torn")?;
+    read_row(out, b"12E99")?;
+    read_row(out, b"torn")?;
+    read_row(out, b"")?;
+    read_row(out, b"   ")?;
+    read_row(out, b"1 2")?;
+    read_row(out, b"-")?;
+    read_row(out, b"12345678901234")?;
+    long_row(out)
 }
 
 // Document 02, (ii): what truncation cuts off.
-fn cut_off() {
+fn cut_off(out: &mut impl Write) -> io::Result<()> {
     // All digits dropped, none, and some.
-    cut_row(b"\x01\x02##", false, 1, 0, 5);
-    cut_row(b"\x01\x07###.###", false, 12195, 0, 3);
-    cut_row(b"\x01\x03###", false, 12195, 0, 3);
+    cut_row(out, b"\x01\x02##", false, 1, 0, 5)?;
+    cut_row(out, b"\x01\x07###.###", false, 12195, 0, 3)?;
+    cut_row(out, b"\x01\x03###", false, 12195, 0, 3)?;
     // Exponential with 1 and with 13 digits.
-    cut_row(b"\x01\x05#^^^^", false, 12195, 0, 3);
-    cut_row(b"\x01\x11#############^^^^", false, 12195, 9, 0);
+    cut_row(out, b"\x01\x05#^^^^", false, 12195, 0, 3)?;
+    cut_row(out, b"\x01\x11#############^^^^", false, 12195, 9, 0)?;
     // e near -99 and 99.
-    cut_row(b"\x01\x02##", false, 1, 0, 99);
-    cut_row(b"\x01\x06+#^^^^", false, 12195, 0, 103);
-    cut_row(b"\x01\x05#^^^^", false, 99999, 95, 0);
+    cut_row(out, b"\x01\x02##", false, 1, 0, 99)?;
+    cut_row(out, b"\x01\x06+#^^^^", false, 12195, 0, 103)?;
+    cut_row(out, b"\x01\x05#^^^^", false, 99999, 95, 0)?;
     // Cut to zero; the sign plays no part.
-    cut_row(b"\x01\x02+#", true, 3, 0, 1);
-    cut_row(b"\x01\x01#", true, 3, 0, 1);
+    cut_row(out, b"\x01\x02+#", true, 3, 0, 1)?;
+    cut_row(out, b"\x01\x01#", true, 3, 0, 1)?;
     // The number zero.
-    cut_row(b"\x01\x02##", false, 0, 0, 0);
-    cut_row(b"\x01\x08+#.#^^^^", false, 0, 0, 0);
+    cut_row(out, b"\x01\x02##", false, 0, 0, 0)?;
+    cut_row(out, b"\x01\x08+#.#^^^^", false, 0, 0, 0)?;
     // Refused: the number exceeds, x is negative under an unsigned image, x is outside its limits.
-    cut_row(b"\x01\x02##", false, 1, 2, 0);
-    cut_row(b"\x01\x07#.#^^^^", false, 5, 0, 2);
-    cut_row(b"\x01\x06##^^^^", false, 1, 0, 99);
+    cut_row(out, b"\x01\x02##", false, 1, 2, 0)?;
+    cut_row(out, b"\x01\x07#.#^^^^", false, 5, 0, 2)?;
+    cut_row(out, b"\x01\x06##^^^^", false, 1, 0, 99)
 }
 
 // Document 02, (iii): positions found in a file.
-fn found() {
+fn found(out: &mut impl Write) -> io::Result<()> {
     // Equal first columns; positions before, at, between and behind them, given with more digits than the column has.
     page_row(
+        out,
         b"\x01\x02##\x05\x12\x12\x99",
         b"-3 0 5 5.001 12 12.5 99 99.1 1E99",
-    );
-    page_row(b"\x01\x02##\x05\x12\x12\x99", b"1E-99 12");
-    page_row(b"\x01\x04##.#\x01\x20\x12\x50", b"1.199 1.2 1.25 12.5 13");
+    )?;
+    page_row(out, b"\x01\x02##\x05\x12\x12\x99", b"1E-99 12")?;
+    page_row(
+        out,
+        b"\x01\x04##.#\x01\x20\x12\x50",
+        b"1.199 1.2 1.25 12.5 13",
+    )?;
     // No positions, no records.
-    page_row(b"\x01\x02##\x05\x12\x12\x99", b"");
-    page_row(b"\x01\x02##", b"1 2");
-    page_row(b"\x01\x02##", b"");
+    page_row(out, b"\x01\x02##\x05\x12\x12\x99", b"")?;
+    page_row(out, b"\x01\x02##", b"1 2")?;
+    page_row(out, b"\x01\x02##", b"")?;
     // Refused: a bad half behind the last position, in the second column of the second record; records that fall behind it.
-    page_row(b"\x02\x01#\x01#\x10\x10\x20\x2a", b"0");
-    page_row(b"\x01\x02##\x05\x12\x11", b"1");
-    page_row(b"\x01\x02##\x05\x12\x11", b"");
+    page_row(out, b"\x02\x01#\x01#\x10\x10\x20\x2a", b"0")?;
+    page_row(out, b"\x01\x02##\x05\x12\x11", b"1")?;
+    page_row(out, b"\x01\x02##\x05\x12\x11", b"")?;
     // Positions that fall, a first column of another kind, and which comes first.
-    page_row(b"\x01\x02##\x05\x12", b"12 11.9");
-    page_row(b"\x01\x02##\x12\x05", b"12 11.9");
-    page_row(b"\x01\x02+#", b"");
-    page_row(b"\x01\x05#^^^^\x50\x00", b"2 1");
+    page_row(out, b"\x01\x02##\x05\x12", b"12 11.9")?;
+    page_row(out, b"\x01\x02##\x12\x05", b"12 11.9")?;
+    page_row(out, b"\x01\x02+#", b"")?;
+    page_row(out, b"\x01\x05#^^^^\x50\x00", b"2 1")?;
     // A file without its contents' end, and with a part of a body.
-    page_row(b"\x01\x02#", b"1");
-    page_row(b"\x01\x03###\x01\x20\x01", b"1");
+    page_row(out, b"\x01\x02#", b"1")?;
+    page_row(out, b"\x01\x03###\x01\x20\x01", b"1")
 }
 
 // Document 02, (iv): mantissas split into digits.
-fn split() {
+fn split(out: &mut impl Write) -> io::Result<()> {
     // Nines, sevens and ones; digits that are one multiple of their power.
-    image_row(b"\x01\x0d#############", false, 9999999999999, 0, 0);
-    image_row(b"\x01\x0d#############", false, 7777777777777, 0, 0);
-    image_row(b"\x01\x0d#############", false, 1111111111111, 0, 0);
-    image_row(b"\x01\x0d#############", false, 8421842184218, 0, 0);
+    image_row(out, b"\x01\x0d#############", false, 9999999999999, 0, 0)?;
+    image_row(out, b"\x01\x0d#############", false, 7777777777777, 0, 0)?;
+    image_row(out, b"\x01\x0d#############", false, 1111111111111, 0, 0)?;
+    image_row(out, b"\x01\x0d#############", false, 8421842184218, 0, 0)?;
     // Nothing left behind the first digit, and zeros inside.
-    image_row(b"\x01\x0d#############", false, 8000000000000, 0, 0);
-    image_row(b"\x01\x0d#############", false, 1000000000000, 0, 0);
-    image_row(b"\x01\x0d#############", false, 1000000000001, 0, 0);
-    image_row(b"\x01\x0d#############", false, 9090909090909, 0, 0);
+    image_row(out, b"\x01\x0d#############", false, 8000000000000, 0, 0)?;
+    image_row(out, b"\x01\x0d#############", false, 1000000000000, 0, 0)?;
+    image_row(out, b"\x01\x0d#############", false, 1000000000001, 0, 0)?;
+    image_row(out, b"\x01\x0d#############", false, 9090909090909, 0, 0)?;
     // Every digit, rising and falling.
-    image_row(b"\x01\x0d#############", false, 1234567890123, 0, 0);
-    image_row(b"\x01\x0d#############", false, 9876543210987, 0, 0);
+    image_row(out, b"\x01\x0d#############", false, 1234567890123, 0, 0)?;
+    image_row(out, b"\x01\x0d#############", false, 9876543210987, 0, 0)?;
     // With a point, with a sign, with digits that are cut off, and exponential.
-    image_row(b"\x01\x0e#.############", false, 5678901234567, 0, 12);
-    image_row(b"\x01\x0f+######.#######", true, 6543210987654, 0, 7);
-    image_row(b"\x01\x04####", false, 1234567890123, 0, 9);
-    image_row(b"\x01\x0d#########^^^^", false, 3456789012345, 0, 4);
+    image_row(out, b"\x01\x0e#.############", false, 5678901234567, 0, 12)?;
+    image_row(out, b"\x01\x0f+######.#######", true, 6543210987654, 0, 7)?;
+    image_row(out, b"\x01\x04####", false, 1234567890123, 0, 9)?;
+    image_row(out, b"\x01\x0d#########^^^^", false, 3456789012345, 0, 4)
 }
 
 // Known values printed, both marked *.
-fn known_lines() {
-    line_row(b"#,###.#", b"34");
-    line_row(b"##", b"1234");
+fn known_lines(out: &mut impl Write) -> io::Result<()> {
+    line_row(out, b"#,###.#", b"34")?;
+    line_row(out, b"##", b"1234")
 }
 
 // 000, PRINTUSING and errors. The line starts right behind the %. Differences of dialect: a line end is carriage return and line feed,
 // and one stands behind the last line too; a dollar sign belongs to the field and stands before the first digit, here it is a literal.
 // Left out: the third example (1;2;3 in one line), as semicolons that hold back line ends are not in document 01.
-fn printed_lines() {
+fn printed_lines(out: &mut impl Write) -> io::Result<()> {
     // Misprint of 000: ANGLE = 2.30 LENGTH = +27.1. The line has - for =, and +##.## keeps two digits; 001 has +##.#.
-    line_row(b" ANGLE - ##.## LENGTH = +##.##", b"2.3;27.123");
-    line_row(b" #.#", b"1;2;3");
+    line_row(out, b" ANGLE - ##.## LENGTH = +##.##", b"2.3;27.123")?;
+    line_row(out, b" #.#", b"1;2;3")?;
     // The dollar sign: 000 prints $73,694.23.
-    line_row(b"TOTAL SALES = ##### VALUE $###,###.##", b"1242.3;73694.23");
+    line_row(
+        out,
+        b"TOTAL SALES = ##### VALUE $###,###.##",
+        b"1242.3;73694.23",
+    )?;
     // Misprint of 000: three up arrows, which its error 38 refuses. In document 01 they are literal bytes.
-    line_row(b" COEFF = +.###^^^ ERROR = -##^^^", b"2.13E-5;2.3E-9");
-    line_row(b" COEFF = +.###^^^^ ERROR = -##^^^^", b"2.13E-5;2.3E-9");
+    line_row(out, b" COEFF = +.###^^^ ERROR = -##^^^", b"2.13E-5;2.3E-9")?;
+    line_row(
+        out,
+        b" COEFF = +.###^^^^ ERROR = -##^^^^",
+        b"2.13E-5;2.3E-9",
+    )?;
     // 001 has this too. Difference of dialect: it prints ##### where a number exceeds.
-    line_row(b" +#.##", b"317.23");
+    line_row(out, b" +#.##", b"317.23")?;
     // Misprint of 000: $ for the % that begins the line.
-    line_row(b" PROFIT AND LOSS STATEMENT", b"");
+    line_row(out, b" PROFIT AND LOSS STATEMENT", b"")?;
     // Misprint of 000: J. SMITH printed whole under five #; then under eight. The dollar sign: 000 prints $9,237.51.
     line_row(
+        out,
         b" SALESMAN ##### TOTAL SALES $##,###.##",
         b"J. SMITH;9237.51",
-    );
+    )?;
     line_row(
+        out,
         b" SALESMAN ######## TOTAL SALES $##,###.##",
         b"J. SMITH;9237.51",
-    );
+    )?;
     // Error 36: no field; its correction, of which 000 gives no print.
-    line_row(b" AMOUNT =", b"1.23");
-    line_row(b" AMOUNT = #####", b"1.23");
+    line_row(out, b" AMOUNT =", b"1.23")?;
+    line_row(out, b" AMOUNT = #####", b"1.23")
 }
 
 // 001, PRINT USING and errors. Difference of dialect: its exponent marks are !!!!, here ^^^^.
 // Left out: 1;2;3 in one line, as above, and in three lines, which is a row above.
-fn earlier_lines() {
-    line_row(b" ANGLE=##.## LENGTH=+##.#", b"2.3;-27.123");
+fn earlier_lines(out: &mut impl Write) -> io::Result<()> {
+    line_row(out, b" ANGLE=##.## LENGTH=+##.#", b"2.3;-27.123")?;
     // Misprint of 001: $73694.23 under ########, which keeps no fraction; then under #####.##.
-    line_row(b" TOTAL SALES- #### VALUE- $########", b"1242;73694.23");
-    line_row(b" TOTAL SALES- #### VALUE- $#####.##", b"1242;73694.23");
-    line_row(b" COEFFICIENT= +.###^^^^ ERROR= -##^^^^", b"2.13E-5;2.3E-9");
-    line_row(b" SALESMAN: ########", b"JOHN DOE");
+    line_row(
+        out,
+        b" TOTAL SALES- #### VALUE- $########",
+        b"1242;73694.23",
+    )?;
+    line_row(
+        out,
+        b" TOTAL SALES- #### VALUE- $#####.##",
+        b"1242;73694.23",
+    )?;
+    line_row(
+        out,
+        b" COEFFICIENT= +.###^^^^ ERROR= -##^^^^",
+        b"2.13E-5;2.3E-9",
+    )?;
+    line_row(out, b" SALESMAN: ########", b"JOHN DOE")?;
     // MAT PRINT USING, two examples. Difference of dialect: in the first, a semicolon prints each row of the array as one line; and a
     // blank line parts two rows.
     line_row(
+        out,
         b" +#.#^^^^",
         b"6.2E-7;-1.3E-17;7.3E-11;1.2E-8;-3.9E-8;-4.9E-8;6.9E-10;8.4E-9;5.2E-14;-5.4E-13",
-    );
+    )?;
     line_row(
+        out,
         b" ANGLE= ###.## DEG ERROR= ##.##",
         b"36.49;5.21;85.60;11.92;135.51;8.61",
-    );
+    )?;
     // Error 47, with a number of ours. Difference of dialect: 001 refuses the line itself, document 01 only elements for it.
-    line_row(b" THE ANSWER IS - - -", b"1");
+    line_row(out, b" THE ANSWER IS - - -", b"1")
 }
 
 // 004, CONVERT and PRINTUSING. Differences of dialect: a leading sign or dollar sign stands before the first digit, and a number that
 // exceeds prints the field with the number's sign. Left out: the line with trailing ++ and --, and the pictures of FMT (0, *, B and /).
-fn later_lines() {
+fn later_lines(out: &mut impl Write) -> io::Result<()> {
     // CONVERT, which in 004 is as printing.
-    line_row(b"####", b"10");
+    line_row(out, b"####", b"10")?;
     // Its values are not given; these are ours. Misprint of 004: its words give the second image as -###.#.
-    line_row(b"-### XYZ -###.##", b"1;2;3");
+    line_row(out, b"-### XYZ -###.##", b"1;2;3")
 }
 
 // Line images that the manuals show without values.
-fn fields() {
+fn fields(out: &mut impl Write) -> io::Result<()> {
     // 000, IMAGE. Difference of dialect, also in the next lines: a dollar sign belongs to the field.
-    fields_row(b" CODE NO. = ##### COMPOSITION = ## ###");
-    fields_row(b" ##### UNITS AT $#,###.## PER UNIT");
-    fields_row(b" +#.##^^^^");
+    fields_row(out, b" CODE NO. = ##### COMPOSITION = ## ###")?;
+    fields_row(out, b" ##### UNITS AT $#,###.## PER UNIT")?;
+    fields_row(out, b" +#.##^^^^")?;
     // 000, SELECT, RETURN (004 too) and error 37.
-    fields_row(b"TOTAL VALUE RECEIVED:$#,###.##");
-    fields_row(b" COST = $#,###,###.## CODE = ####");
-    fields_row(b" AMOUNT = $#,###.##");
+    fields_row(out, b"TOTAL VALUE RECEIVED:$#,###.##")?;
+    fields_row(out, b" COST = $#,###,###.## CODE = ####")?;
+    fields_row(out, b" AMOUNT = $#,###.##")?;
     // 000, error 38. Difference of dialect: refused there for its three up arrows. Its correction, which 004, PRINTUSING, has too.
-    fields_row(b" ##.##^^^");
-    fields_row(b" ##.##^^^^");
+    fields_row(out, b" ##.##^^^")?;
+    fields_row(out, b" ##.##^^^^")?;
     // 001, IMAGE. Difference of dialect: its !!!! belong to the field.
-    fields_row(b" ##.###!!!!");
-    fields_row(b" +#######");
+    fields_row(out, b" ##.###!!!!")?;
+    fields_row(out, b" +#######")?;
     // 001, errors 47 and 48.
-    fields_row(b" THE ANSWER IS ###");
-    fields_row(b" A=####");
+    fields_row(out, b" THE ANSWER IS ###")?;
+    fields_row(out, b" A=####")?;
     // 004, IMAGE.
-    fields_row(b"FEAR IN A HANDFUL OF DUST +###,###,###.##");
+    fields_row(out, b"FEAR IN A HANDFUL OF DUST +###,###,###.##")
 }
 
 // All rows.
-fn main() {
-    known_images();
-    manual_images();
-    sizes();
-    bodies();
-    known_texts();
-    constants();
-    later_constants();
-    remarks();
-    cut_off();
-    found();
-    split();
-    known_lines();
-    printed_lines();
-    earlier_lines();
-    later_lines();
-    fields();
+fn print_rows(out: &mut impl Write) -> io::Result<()> {
+    known_images(out)?;
+    manual_images(out)?;
+    sizes(out)?;
+    bodies(out)?;
+    known_texts(out)?;
+    constants(out)?;
+    later_constants(out)?;
+    remarks(out)?;
+    cut_off(out)?;
+    found(out)?;
+    split(out)?;
+    known_lines(out)?;
+    printed_lines(out)?;
+    earlier_lines(out)?;
+    later_lines(out)?;
+    fields(out)
+}
+
+// Writes all rows to standard output.
+fn run(rt: &(impl Print + AllocGlobal)) -> io::Result<()> {
+    let mut out = BufWriter::new(rt.alloc(), io::writer(rt))?;
+    print_rows(&mut out)?;
+    out.flush()
+}
+
+fn main(rt: HostRuntime) {
+    if run(&rt).is_err() {
+        console::tell_failed_write(&rt);
+    }
 }

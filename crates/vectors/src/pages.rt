@@ -3,14 +3,14 @@ use crate::shown::{print_count, print_hexadecimal, print_quoted, print_raw, prin
 use codec::{COLUMNS, Numbers};
 use decimal::Number;
 use rolls::{FindAnswer, POSITIONS, Positions};
+use std::io;
+use std::io::Write;
 
 // The numbers of a list as positions.
 fn positions_of(numbers: Numbers) -> Positions {
     let mut values = [Number::ZERO; POSITIONS];
-    let mut i = 0;
-    while i < COLUMNS {
+    for i in 0..COLUMNS {
         values[i] = numbers.values[i];
-        i += 1;
     }
     Positions {
         values,
@@ -19,24 +19,23 @@ fn positions_of(numbers: Numbers) -> Positions {
 }
 
 // Writes the first counts, a blank before each.
-fn print_counts(counts: [usize; POSITIONS], count: usize) {
-    let mut i = 0;
-    while i < POSITIONS {
+fn print_counts(out: &mut impl Write, counts: [usize; POSITIONS], count: usize) -> io::Result<()> {
+    for i in 0..POSITIONS {
         if i < count {
-            print_raw(b" ");
-            print_count(counts[i]);
+            print_raw(out, b" ")?;
+            print_count(out, counts[i])?;
         }
-        i += 1;
     }
+    Ok(())
 }
 
 // Writes a row: a file, the numbers of a text as positions, and the records found with the count of comparisons, or the refusal.
-pub(crate) fn page_row(file: &[u8], text: &[u8]) {
-    print_raw(b"file");
-    print_hexadecimal(file);
-    print_raw(b" at ");
-    print_quoted(text);
-    print_raw(b": ");
+pub(crate) fn page_row(out: &mut impl Write, file: &[u8], text: &[u8]) -> io::Result<()> {
+    print_raw(out, b"file")?;
+    print_hexadecimal(out, file)?;
+    print_raw(out, b" at ")?;
+    print_quoted(out, text)?;
+    print_raw(out, b": ")?;
     let walked = codec::read_text_numbers(text, 0);
     let numbers = walked.numbers;
     let count = numbers.count;
@@ -44,13 +43,13 @@ pub(crate) fn page_row(file: &[u8], text: &[u8]) {
     let records = found.records;
     let answer = found.answer;
     match answer {
-        FindAnswer::Refused(refusal) => print_refusal(refusal),
+        FindAnswer::Refused(refusal) => print_refusal(out, refusal)?,
         FindAnswer::Found(comparisons) => {
-            print_raw(b"records");
-            print_counts(records, count);
-            print_raw(b", comparisons ");
-            print_count(comparisons);
+            print_raw(out, b"records")?;
+            print_counts(out, records, count)?;
+            print_raw(out, b", comparisons ")?;
+            print_count(out, comparisons)?;
         }
     }
-    print_raw(b"\n");
+    print_raw(out, b"\n")
 }

@@ -1,103 +1,98 @@
-// Small writers to standard output.
+// Small writers to an output.
 use decimal::{EXPONENT_LIMIT, Number, Refusal, Remainder, SCALE};
-use libc::STDOUT_FILENO;
+use std::io;
+use std::io::Write;
 
 // The room for a text, a body or a print: no row needs more.
 pub(crate) const ROOM: usize = 256;
 
 // Writes bytes as they are.
-pub(crate) fn print_raw(bytes: &[u8]) {
-    io::write_all(STDOUT_FILENO, bytes);
+pub(crate) fn print_raw(out: &mut impl Write, bytes: &[u8]) -> io::Result<()> {
+    out.write_all(bytes)
 }
 
 // Writes bytes between quotes.
-pub(crate) fn print_quoted(bytes: &[u8]) {
-    print_raw(b"'");
-    print_raw(bytes);
-    print_raw(b"'");
+pub(crate) fn print_quoted(out: &mut impl Write, bytes: &[u8]) -> io::Result<()> {
+    print_raw(out, b"'")?;
+    print_raw(out, bytes)?;
+    print_raw(out, b"'")
 }
 
 // Writes a count.
-pub(crate) fn print_count(count: usize) {
-    io::print_decimal(STDOUT_FILENO, count as u64);
+pub(crate) fn print_count(out: &mut impl Write, count: usize) -> io::Result<()> {
+    write!(out, "{count}")
 }
 
 // Writes a sign and a whole number.
-pub(crate) fn print_signed(negative: bool, whole: u64) {
-    if negative {
-        print_raw(b"-");
-    } else {
-        print_raw(b"+");
-    }
-    io::print_decimal(STDOUT_FILENO, whole);
+pub(crate) fn print_signed(out: &mut impl Write, negative: bool, whole: u64) -> io::Result<()> {
+    let sign = if negative { '-' } else { '+' };
+    write!(out, "{sign}{whole}")
 }
 
 // Writes e and a power that is held with some excess added.
-fn print_power(held: usize, excess: usize) {
-    print_raw(b" e ");
+fn print_power(out: &mut impl Write, held: usize, excess: usize) -> io::Result<()> {
+    print_raw(out, b" e ")?;
     if held < excess {
-        print_signed(true, (excess - held) as u64);
+        print_signed(out, true, (excess - held) as u64)
     } else {
-        print_signed(false, (held - excess) as u64);
+        print_signed(out, false, (held - excess) as u64)
     }
 }
 
 // Writes a number in normal form: sign and mantissa, then e and the exponent.
-pub(crate) fn print_number(number: Number) {
-    print_signed(number.negative, number.mantissa);
-    print_power(number.exponent, EXPONENT_LIMIT);
+pub(crate) fn print_number(out: &mut impl Write, number: Number) -> io::Result<()> {
+    print_signed(out, number.negative, number.mantissa)?;
+    print_power(out, number.exponent, EXPONENT_LIMIT)
 }
 
 // Writes a remainder: r, then e and the power.
-pub(crate) fn print_remainder(remainder: Remainder) {
-    io::print_decimal(STDOUT_FILENO, remainder.whole);
-    print_power(remainder.power, SCALE);
+pub(crate) fn print_remainder(out: &mut impl Write, remainder: Remainder) -> io::Result<()> {
+    write!(out, "{}", remainder.whole)?;
+    print_power(out, remainder.power, SCALE)
 }
 
 // Writes a refusal's number and place.
-pub(crate) fn print_refusal(refusal: Refusal) {
-    print_raw(b"refused ");
-    io::print_decimal(STDOUT_FILENO, refusal.number as u64);
-    print_raw(b" ");
-    print_count(refusal.place);
+pub(crate) fn print_refusal(out: &mut impl Write, refusal: Refusal) -> io::Result<()> {
+    write!(out, "refused {} {}", refusal.number, refusal.place)
 }
 
 // Writes a byte of a text between quotes; a line end closes the quotes, and opens them again for the next line.
-fn print_character(byte: u8) {
+fn print_character(out: &mut impl Write, byte: u8) -> io::Result<()> {
     if byte == b'\n' {
-        print_raw(b"' '");
+        print_raw(out, b"' '")
     } else {
-        let one = [byte];
-        print_raw(&one);
+        print_raw(out, &[byte])
     }
 }
 
 // Writes a blank and a byte in hexadecimal.
-fn print_byte(byte: u8) {
-    print_raw(b" ");
-    io::print_hex(STDOUT_FILENO, byte as u64, 2);
+fn print_byte(out: &mut impl Write, byte: u8) -> io::Result<()> {
+    write!(out, " {byte:02x}")
 }
 
 // Writes bytes in hexadecimal, a blank before each.
-pub(crate) fn print_hexadecimal(bytes: &[u8]) {
-    let mut i = 0;
-    while i < bytes.len() {
-        print_byte(bytes[i]);
-        i += 1;
+pub(crate) fn print_hexadecimal(out: &mut impl Write, bytes: &[u8]) -> io::Result<()> {
+    for byte in bytes {
+        print_byte(out, *byte)?;
     }
+    Ok(())
 }
 
 // Writes the first bytes of a buffer, as characters or in hexadecimal.
-pub(crate) fn print_bytes(buffer: [u8; ROOM], size: usize, hexadecimal: bool) {
-    let mut i = 0;
-    while i < ROOM {
+pub(crate) fn print_bytes(
+    out: &mut impl Write,
+    buffer: [u8; ROOM],
+    size: usize,
+    hexadecimal: bool,
+) -> io::Result<()> {
+    for (i, byte) in buffer.iter().enumerate() {
         if i < size {
             if hexadecimal {
-                print_byte(buffer[i]);
+                print_byte(out, *byte)?;
             } else {
-                print_character(buffer[i]);
+                print_character(out, *byte)?;
             }
         }
-        i += 1;
     }
+    Ok(())
 }
