@@ -11,7 +11,7 @@ use crate::shown::{print_damaged, print_number, print_raw};
 use crate::words::{decode, end_at, front, is_bytes, whole, word};
 use console::Input;
 use std::io;
-use std::io::{BufWriter, Write};
+use std::io::Write;
 
 // An input of so many bytes is too long: it has one answer, ?.
 const INPUT: usize = 1 << 18;
@@ -114,14 +114,13 @@ fn answer_lines(out: &mut impl Write, input: &[u8]) -> io::Result<()> {
 }
 
 // Answers the input to standard output.
-fn answer_input(rt: &(impl Print + AllocGlobal), input: &[u8]) -> io::Result<()> {
-    let mut out = BufWriter::new(rt.alloc(), io::writer(rt))?;
+fn answer_input(rt: &impl Print, input: &[u8]) -> io::Result<()> {
+    let mut out = io::writer(rt);
     if input.len() == INPUT {
-        print_raw(&mut out, b"?\n")?;
+        print_raw(&mut out, b"?\n")
     } else {
-        answer_lines(&mut out, input)?;
+        answer_lines(&mut out, input)
     }
-    out.flush()
 }
 
 // Reads the input, and answers it.

@@ -15,7 +15,7 @@ use crate::lines::{fields_row, line_row};
 use crate::pages::page_row;
 use crate::texts::{long_row, read_row, text_row};
 use std::io;
-use std::io::{BufWriter, Write};
+use std::io::Write;
 
 // Known values, those marked * too, and one row each of refusals 2 and 1.
 fn known_images(out: &mut impl Write) -> io::Result<()> {
@@ -355,10 +355,8 @@ fn print_rows(out: &mut impl Write) -> io::Result<()> {
 }
 
 // Writes all rows to standard output.
-fn run(rt: &(impl Print + AllocGlobal)) -> io::Result<()> {
-    let mut out = BufWriter::new(rt.alloc(), io::writer(rt))?;
-    print_rows(&mut out)?;
-    out.flush()
+fn run(rt: &impl Print) -> io::Result<()> {
+    print_rows(&mut io::writer(rt))
 }
 
 fn main(rt: HostRuntime) {
