@@ -1,5 +1,5 @@
-// Reading standard input and writing standard output, where a failure is not taken for the end of the input or for success: programs have
-// no exit status, so a line on standard error tells it.
+// Reading standard input and writing standard output, where a failure is not taken for the end of the input or for success: a line on
+// standard error tells it.
 #![tactic(auto)]
 
 ghost use Rattle.std.specs.Prelude.{◌≡◌, true, length};
