@@ -309,14 +309,16 @@ pub fn convert(text: &[u8]) -> NumberAnswer
     let number = reading.number;
     match number {
         NumberAnswer::Number(number) => {
-            if used != text.len() {
+            let is_left_over = used != text.len();
+            if is_left_over {
                 return NO_NUMBER;
             }
             NumberAnswer::Number(number)
         }
         // 5 stands only where no byte is left over.
         NumberAnswer::Refused(refusal) => {
-            if used == text.len() {
+            let is_whole = used == text.len();
+            if is_whole {
                 return NumberAnswer::Refused(refusal);
             }
             NO_NUMBER

@@ -54,7 +54,8 @@ fn read_pairs(bytes: &[u8], from: usize, start: u64, worths: &[u8; 256]) -> Colu
     let mut i = from;
     while i < bytes.len() {
         let two = worths[bytes[i] as usize];
-        if two == NO_WORTH {
+        let is_bad = two == NO_WORTH;
+        if is_bad {
             return ColumnRun::Bad;
         }
         value = value * 100 + two as u64;

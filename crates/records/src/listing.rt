@@ -200,7 +200,8 @@ pub fn report(input: &[u8], buffer: &mut [u8]) -> WriteAnswer
     ensures answer { write_meaning result ≡ sized (within (length buffer.old) (report_of input.now)) }
     ensures bytes { buffer.new ≡ stored_in (within (length buffer.old) (report_of input.now)) buffer.old }
 {
-    if FILE_LENGTH < input.len() {
+    let is_long = FILE_LENGTH < input.len();
+    if is_long {
         return write_refusal(WRONG_LENGTH, 0, buffer);
     }
     let table = check_file(input);

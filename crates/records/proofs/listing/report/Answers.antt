@@ -9,12 +9,12 @@ use Rattle.records.proofs.LinesLaws.{listed_held, listed_made}
 use Rattle.records.proofs.ListingLaws.{report_long, report_refused, report_same}
 use Rattle.records.proofs.listing.report.Goals as goal
 
-pub returns-then-input-gt-FILE_LENGTH : goal.returns-then-input-gt-FILE_LENGTH
-returns-then-input-gt-FILE_LENGTH c =
+pub returns-then-is_long : goal.returns-then-is_long
+returns-then-is_long c =
     let w = c in
     let t = w in
     let a = t.args in
-    let prints = report_long a.input.now t.if-input-gt-FILE_LENGTH.true in
+    let prints = report_long a.input.now t.if-is_long.true in
     let all = passed_on (ap (within (length a.buffer.now)) (sym prints)) a.buffer.now (w.write_refusal.ensures.answer, w.write_refusal.ensures.bytes) in record { answer = all.0; bytes = all.1 }
 
 pub returns-in-Refused : goal.returns-in-Refused
@@ -26,7 +26,7 @@ returns-in-Refused c =
     let a = t.args in
     let r = f.check_file-table.result in
     let refuses = told_refused (checked_file a.input.now) r n.in-Refused.refusal f.check_file-table.ensures n.in-Refused.is in
-    let prints = report_refused a.input.now t.if-input-gt-FILE_LENGTH.false refuses in
+    let prints = report_refused a.input.now t.if-is_long.false refuses in
     let all = passed_on (ap (within (length a.buffer.now)) (sym prints)) a.buffer.now (w.write_refusal-in-Refused.ensures.answer, w.write_refusal-in-Refused.ensures.bytes) in record { answer = all.0; bytes = all.1 }
 
 pub list_checked-requires : goal.list_checked-requires
@@ -38,4 +38,4 @@ returns c =
     let t = w in
     let a = t.args in
     let h = listed_held (listed_made c.args.input.now c.check_file-table.ensures c.in_default.is) in
-    let all = passed_on (report_same a.input.now t.if-input-gt-FILE_LENGTH.false h.lists (length a.buffer.now)) a.buffer.now (w.list_checked.ensures.answer, w.list_checked.ensures.bytes) in record { answer = all.0; bytes = all.1 }
+    let all = passed_on (report_same a.input.now t.if-is_long.false h.lists (length a.buffer.now)) a.buffer.now (w.list_checked.ensures.answer, w.list_checked.ensures.bytes) in record { answer = all.0; bytes = all.1 }
