@@ -1,7 +1,7 @@
 #!/usr/bin/env python3
 """Brings the names of this repository's definitions, laws and fields in specs/ and proofs/ to snake case.
 
-usage: python3 tools/rename.py          at the top of the repository, once, after /opt/rattle/port/port.py
+usage: python3 tools/rename.py          at the top of the repository, once, after the toolchain's port.py
        python3 tools/rename.py --list   prints each name with its new one, and changes nothing
 
 Types, modules and the constructors that begin with a capital keep their names. In src/ only what clauses and `ghost use` lines say is
