@@ -129,7 +129,5 @@ fn main(rt: HostRuntime) {
     let Input::Bytes(size) = console::read_input(&rt, &mut input) else {
         return;
     };
-    if answer_input(&rt, front(&input, size)).is_err() {
-        console::tell_failed_write(&rt);
-    }
+    console::is_written(&rt, answer_input(&rt, front(&input, size)));
 }

@@ -2,7 +2,7 @@
 // standard error tells it.
 #![tactic(auto)]
 
-ghost use Rattle.std.specs.Prelude.{◌≡◌, true, length};
+ghost use Rattle.std.specs.Prelude.{◌≡◌, true, length, is_ok};
 ghost use Rattle.console.specs.Within.{Within, Reads};
 
 use std::io;
@@ -49,16 +49,18 @@ pub fn write_output(rt: &(impl Print + Eprint), bytes: &[u8]) -> bool
     if bytes.len() == 0 {
         return true;
     }
-    if rt.write_all(bytes).is_ok() {
-        return true;
-    }
-    tell_failed_write(rt);
-    false
+    is_written(rt, rt.write_all(bytes))
 }
 
-// Tells a failed write.
-pub fn tell_failed_write(rt: &impl Eprint) {
+// Whether writing gave no error; a failed write is told.
+pub fn is_written(rt: &impl Eprint, written: io::Result<()>) -> bool
+    ensures { result ≡ is_ok written }
+{
+    if written.is_ok() {
+        return true;
+    }
     tell(rt, "writing standard output failed\n");
+    false
 }
 
 // Writes a line to standard error, where that can be written.

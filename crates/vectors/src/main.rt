@@ -359,8 +359,7 @@ fn run(rt: &impl Print) -> io::Result<()> {
     print_rows(&mut io::writer(rt))
 }
 
+// All rows, and what failed to be written.
 fn main(rt: HostRuntime) {
-    if run(&rt).is_err() {
-        console::tell_failed_write(&rt);
-    }
+    console::is_written(&rt, run(&rt));
 }

@@ -1,14 +1,38 @@
 -- `write_text` meets its contract: the parts of the text are written one behind the other. Assumes nothing.
-use Prim.Native.Nat.{ℕ, ◌*◌, ◌/◌, ◌^◌}
-use mathlib.Core.Path.{ap, ◌∙◌}
+use Prim.Native.Nat.{ℕ, ◌+◌, ◌*◌, ◌/◌, ◌^◌, ◌≤◌}
+use mathlib.Core.Path.{◌≡◌, ap, ◌∙◌}
 use native.Mathlib.Omega.{arith}
-use Rattle.decimal.specs.Digits.{precision, halves_in}
+use lib.ListN.{length}
+use mathlib.Core.List.{List}
+use Rattle.decimal.specs.declared.image.Image.{Image}
+use Rattle.decimal.specs.declared.truncation.Truncation.{Truncation}
+use Rattle.decimal.specs.Digits.{precision, halves_in, value_of}
 use Rattle.decimal.proofs.PackedLaws.{shifted_halves}
-use Rattle.codec.specs.Packing.{held_by}
-use Rattle.codec.specs.Alpha.{text_length, tail_length, exponent_length}
-use Rattle.codec.proofs.AlphaLaws.{integer_step, fraction_step, fixed_end, exponent_end}
+use Rattle.codec.specs.Answers.{written}
+use Rattle.codec.specs.Columns.{sign_count}
+use Rattle.codec.specs.Packing.{held_by, Held}
+use Rattle.codec.specs.Alpha.{digit_bytes, sign_text, fraction_text, text_length, tail_length, exponent_length}
+use Rattle.codec.proofs.AlphaLaws.{fixed_text, integer_step, fraction_step, fixed_end, exponent_end}
 use Rattle.codec.proofs.ContentsLaws.{sign_few}
 use Rattle.codec.proofs.alpha.write_text.Goals as goal
+
+-- the sign, the digits before the point, and the point with the digits behind it, written one behind the other, are the text in fixed point
+fixed_written :
+    {im : Image} {kept : Truncation} (b : List ℕ) {signs digits last : List ℕ} {place : ℕ}
+    → Held im kept
+    → text_length im ≤ length b
+    → signs ≡ written b 0 (sign_text im.sign (held_by kept).negative)
+    → place ≡ sign_count im.sign
+    → digits ≡ written signs place (digit_bytes (halves_in im.integer (kept.halves / 2 ^ (4 * im.fraction))))
+    → last ≡ written digits (place + im.integer) (fraction_text im.fraction (value_of (halves_in precision kept.halves)))
+    → last ≡ written b 0 (fixed_text im (held_by kept))
+fixed_written {im} {kept} b held room signed placed digited pointed =
+    let t = held_by kept in
+    let digits =
+    ap (λ (h : ℕ). halves_in im.integer (h / 2 ^ (4 * im.fraction))) held.digits
+    ∙ shifted_halves precision im.integer im.fraction t.whole held.size in
+    let front = digited ∙ integer_step im t b room signed placed digits in
+    pointed ∙ fraction_step im t b room front (omega (arith, placed))
 
 pub write_sign-start-requires : goal.write_sign-start-requires
 unfolding text_length
@@ -50,31 +74,15 @@ write_exponent-requires c =
 pub returns-then-image : goal.returns-then-image
 returns-then-image c =
     let a = c.args in
-    let t = held_by a.truncation in
-    let digits =
-    ap (λ (h : ℕ). halves_in a.image.integer (h / 2 ^ (4 * a.image.fraction))) c.requires.0.digits
-    ∙ shifted_halves precision a.image.integer a.image.fraction t.whole c.requires.0.size in
-    let front =
-    c.write_digits.ensures
-    ∙ integer_step a.image t a.buffer.now c.requires.1 c.write_sign-start.ensures.bytes c.write_sign-start.ensures.place digits in
-    let fixed =
-    c.write_fraction-end.ensures.bytes
-    ∙ fraction_step a.image t a.buffer.now c.requires.1 front (omega (arith, c.write_sign-start.ensures.place)) in
+    let signs = c.write_sign-start.ensures in
+    let fixed = fixed_written a.buffer.now c.requires.0 c.requires.1 signs.bytes signs.place c.write_digits.ensures c.write_fraction-end.ensures.bytes in
     c.write_exponent.ensures
-    ∙ exponent_end a.image t a.buffer.now c.requires.1 c.if-image.true fixed
+    ∙ exponent_end a.image (held_by a.truncation) a.buffer.now c.requires.1 c.if-image.true fixed
     (omega (arith, c.write_fraction-end.ensures.place, c.write_sign-start.ensures.place))
 
 pub returns-else-image : goal.returns-else-image
 returns-else-image c =
     let a = c.args in
-    let t = held_by a.truncation in
-    let digits =
-    ap (λ (h : ℕ). halves_in a.image.integer (h / 2 ^ (4 * a.image.fraction))) c.requires.0.digits
-    ∙ shifted_halves precision a.image.integer a.image.fraction t.whole c.requires.0.size in
-    let front =
-    c.write_digits.ensures
-    ∙ integer_step a.image t a.buffer.now c.requires.1 c.write_sign-start.ensures.bytes c.write_sign-start.ensures.place digits in
-    let fixed =
-    c.write_fraction-end.ensures.bytes
-    ∙ fraction_step a.image t a.buffer.now c.requires.1 front (omega (arith, c.write_sign-start.ensures.place)) in
-    fixed_end a.image t a.buffer.now c.requires.1 c.if-image.false fixed
+    let signs = c.write_sign-start.ensures in
+    let fixed = fixed_written a.buffer.now c.requires.0 c.requires.1 signs.bytes signs.place c.write_digits.ensures c.write_fraction-end.ensures.bytes in
+    fixed_end a.image (held_by a.truncation) a.buffer.now c.requires.1 c.if-image.false fixed

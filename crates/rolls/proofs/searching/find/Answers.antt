@@ -1,25 +1,28 @@
 -- `find` meets its contract: refused as the file is, with 10, 7, and as the page is; else what the walk gave, which is the first records.
 -- Assumes nothing.
 use mathlib.Core.Path.{◌≡◌, ap, ap₂, sym, ◌∙◌}
-use Prim.Native.Nat.{◌≤◌}
+use Prim.Native.Nat.{ℕ, ◌≤◌}
 use mathlib.Core.Bool.{Bool}
 use mathlib.Core.List.{List}
 use lib.ListN.{length}
 use Rattle.decimal.specs.declared.image.Image.{Image}
 use native.Mathlib.Omega.{arith}
-use Rattle.decimal.specs.Answer.{check_meaning}
+use Rattle.decimal.specs.Answer.{Answer, done, check_meaning}
 use Rattle.decimal.proofs.KeptLaws.{checked_refused}
 use Rattle.codec.proofs.BodyLaws.{checked_done}
 use Rattle.codec.specs.Contents.{contents_of}
 use Rattle.codec.proofs.ContentsLaws.{told_read, told_refused}
 use Rattle.records.specs.Files.{read_file}
-use Rattle.rolls.specs.Searching.{max_positions, position_list, check_page, found_of, HasContents}
+use Rattle.rolls.specs.Searching.{max_positions, position_list, keys_in, check_page, found_of, HasContents, Walks}
 use Rattle.rolls.proofs.PageLaws.{positions_count}
 use Rattle.rolls.proofs.KeyLaws.{contents_held}
 use Rattle.rolls.proofs.SearchLaws.{page_taken, search_file, search_many, search_bad, search_page, search_done, found_walked}
+use Rattle.decimal.specs.declared.number.Number.{Number}
+use Rattle.codec.specs.Lists.{image_list}
+use Rattle.rolls.specs.Falling.{fall}
+use Rattle.rolls.specs.declared.searching.Walked.{Walked}
 use Rattle.codec.specs.declared.contents.Contents.{Contents}
 use Rattle.decimal.specs.declared.refusal.CheckAnswer.TheVariants as CheckAnswer
-use Prim.Native.Nat.{ℕ}
 use Rattle.rolls.proofs.searching.find.Goals as goal
 
 -- the contents that was read
@@ -31,6 +34,16 @@ contents_of_file :
 contents_of_file file table e fine =
     let t = told_read (read_file file) table e fine in
     record { table = t.table; told = e ∙ ap contents_of t.reads; reads = t.reads }
+
+-- what the page is asked, over the contents and the keys that were read
+asked_page :
+    {file : List ℕ} {table : Contents} {ps ks : List Number} {w : Walked} {answer : Answer (Unit {0})} (h : HasContents file table)
+    → Walks file h.table ps w
+    → keys_in h.table file ≡ done ks
+    → answer ≡ check_page (image_list table.images) ps w.falls
+    → answer ≡ check_page h.table.images ps (fall ks)
+asked_page {ps = ps} h walked reads e =
+    e ∙ ap₂ (λ (l : List Image) (b : Bool). check_page l ps b) (contents_held h).images (walked.falls reads)
 
 pub returns-in-Refused : goal.returns-in-Refused
 returns-in-Refused c =
@@ -81,9 +94,7 @@ returns-in-Refused-check_page c =
     let few : length ps ≤ max_positions = omega (arith, positions_count a.positions, c.if-positions-gt-POSITIONS.false) in
     let walked = c.walk-walked.ensures contents in
     let keys = checked_done _ (sym walked.answers ∙ ap check_meaning c.in_default-read.is) in
-    let asked =
-    c.check_page.ensures
-    ∙ ap₂ (λ (l : List Image) (b : Bool). check_page l ps b) (contents_held contents).images (walked.falls keys.1) in
+    let asked = asked_page contents walked keys.1 c.check_page.ensures in
     c.not_found-in-Refused-check_page.ensures
     ∙ sym (ap found_of (search_page a.file.now ps contents.reads few keys.1
     (sym asked ∙ ap check_meaning c.in-Refused-check_page.is)))
@@ -96,9 +107,7 @@ returns c =
     let few : length ps ≤ max_positions = omega (arith, positions_count a.positions, c.if-positions-gt-POSITIONS.false) in
     let walked = c.walk-walked.ensures contents in
     let keys = checked_done _ (sym walked.answers ∙ ap check_meaning c.in_default-read.is) in
-    let asked =
-    c.check_page.ensures
-    ∙ ap₂ (λ (l : List Image) (b : Bool). check_page l ps b) (contents_held contents).images (walked.falls keys.1) in
+    let asked = asked_page contents walked keys.1 c.check_page.ensures in
     let fine = sym asked ∙ ap check_meaning c.in_default-check_page.is in
     let taken = page_taken _ ps _ fine in
     let gives = walked.walks keys.1 taken.normals in
