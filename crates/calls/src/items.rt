@@ -1,26 +1,21 @@
 // Numbers and elements out of bytes. Each has ITEM bytes: a kind, 0 for a number, 1 for a negative one, 2 for a text; then two whole
 // numbers of eight bytes, the mantissa and the exponent plus EXPONENT_LIMIT, or a text's start and length.
-ghost use Rattle.std.specs.Prelude.{◌+◌, ◌≤◌, length};
-
 use crate::words::whole;
-use codec::{COLUMNS, Numbers};
+use arrayvec::ArrayVec;
 use decimal::Number;
 use records::{ELEMENTS, Element};
-use rolls::{POSITIONS, Positions};
 
 // The bytes of an item.
 const ITEM: usize = 17;
 
-// The element whose item stands at a place.
-fn element_at(bytes: &[u8], at: usize) -> Element
-    requires { at + 17 ≤ length bytes.now }
-{
-    let middle = at + 9;
-    let end = at + ITEM;
-    let start = at + 1;
-    let kind = bytes[at];
-    let first = whole(&bytes[start..middle]);
-    let second = whole(&bytes[middle..end]);
+// The most items that are read of a list: one more than any call takes, so that a longer list is refused.
+const LISTED: usize = ELEMENTS + 1;
+
+// The element of an item.
+fn element_of(item: &[u8; ITEM]) -> Element {
+    let kind = item[0];
+    let first = whole(&item[1..9]);
+    let second = whole(&item[9..]);
     if kind == 2 {
         return Element::Text(first, second);
     }
@@ -41,55 +36,35 @@ fn number_of(element: Element) -> Number {
 
 // The number whose item bytes begin with; zero where they are too short.
 pub(crate) fn number_in(bytes: &[u8]) -> Number {
-    if bytes.len() < ITEM {
-        return Number::ZERO;
+    let (items, _) = bytes.as_chunks::<ITEM>();
+    match items {
+        [item, ..] => number_of(element_of(item)),
+        [] => Number::ZERO,
     }
-    number_of(element_at(bytes, 0))
 }
 
-// The numbers of a list; past COLUMNS they only count.
-pub(crate) fn numbers_in(bytes: &[u8]) -> Numbers {
-    let mut values = [Number::ZERO; COLUMNS];
-    let count = bytes.len() / ITEM;
-    let mut at = 0;
-    for i in 0..COLUMNS {
-        if bytes.len() - at < ITEM {
-            return Numbers { values, count };
+// The elements of a list, up to LISTED.
+pub(crate) fn elements_in(bytes: &[u8]) -> ArrayVec<Element, LISTED> {
+    let (items, _) = bytes.as_chunks::<ITEM>();
+    let mut elements = ArrayVec::new();
+    for item in items {
+        if elements.is_full() {
+            break;
         }
-        values[i] = number_of(element_at(bytes, at));
-        at += ITEM;
-    }
-    Numbers { values, count }
-}
-
-// The count of a list's elements.
-pub(crate) fn element_count(bytes: &[u8]) -> usize {
-    bytes.len() / ITEM
-}
-
-// The elements of a list, up to ELEMENTS.
-pub(crate) fn elements_in(bytes: &[u8]) -> [Element; ELEMENTS] {
-    let mut elements = [Element::Number(Number::ZERO); ELEMENTS];
-    let mut at = 0;
-    for i in 0..ELEMENTS {
-        if bytes.len() - at < ITEM {
-            return elements;
-        }
-        elements[i] = element_at(bytes, at);
-        at += ITEM;
+        elements.push(element_of(item));
     }
     elements
 }
 
-// The positions of a list; past POSITIONS they only count.
-pub(crate) fn positions_in(bytes: &[u8]) -> Positions {
-    let elements = elements_in(bytes);
-    let mut values = [Number::ZERO; POSITIONS];
-    for i in 0..POSITIONS {
-        values[i] = number_of(elements[i]);
+// The numbers of a list, up to LISTED.
+pub(crate) fn numbers_in(bytes: &[u8]) -> ArrayVec<Number, LISTED> {
+    let (items, _) = bytes.as_chunks::<ITEM>();
+    let mut numbers = ArrayVec::new();
+    for item in items {
+        if numbers.is_full() {
+            break;
+        }
+        numbers.push(number_of(element_of(item)));
     }
-    Positions {
-        values,
-        count: element_count(bytes),
-    }
+    numbers
 }

@@ -1,14 +1,14 @@
 // The calls, a function for each: its arguments are a line's words as bytes, and it writes the answer and every byte of a lent buffer.
-use crate::items::{element_count, elements_in, number_in, numbers_in, positions_in};
+use crate::items::{elements_in, number_in, numbers_in};
 use crate::shown::{
-    print_buffer, print_bytes, print_check, print_count, print_counts, print_number, print_numbers,
-    print_parts, print_raw, print_refusal, print_remainder, print_remainders, print_written,
+    print_buffer, print_bytes, print_check, print_count, print_number, print_numbers, print_parts,
+    print_raw, print_refusal, print_remainder, print_remainders, print_written,
 };
-use crate::words::{front, whole};
-use codec::{TextAnswer, WalkAnswer};
-use decimal::{Image, ImageAnswer, NumberAnswer, Order, OrderAnswer, RemainderAnswer, Sign};
-use records::{AddAnswer, ForecastAnswer, PrintAnswer, ShowAnswer};
-use rolls::FindAnswer;
+use crate::words::whole;
+use codec::Stop;
+use decimal::{Image, Sign, Truncation};
+use rolls::POSITIONS;
+use std::cmp::Ordering;
 use std::io;
 use std::io::Write;
 
@@ -19,7 +19,7 @@ pub(crate) fn pack(
     contents: &[u8],
     numbers: &[u8],
 ) -> io::Result<()> {
-    let answer = codec::pack(contents, numbers_in(numbers), &mut *buffer);
+    let answer = codec::pack(contents, &numbers_in(numbers), &mut *buffer);
     print_written(out, answer, &*buffer)
 }
 
@@ -30,20 +30,30 @@ pub(crate) fn cutoff(
     contents: &[u8],
     numbers: &[u8],
 ) -> io::Result<()> {
-    let packed = codec::pack_with_remainders(contents, numbers_in(numbers), &mut *buffer);
-    let answer = packed.answer;
-    print_written(out, answer, &*buffer)?;
-    let remainders = packed.remainders;
-    print_remainders(out, remainders)
+    match codec::pack_with_remainders(contents, &numbers_in(numbers), &mut *buffer) {
+        Err(refusal) => {
+            print_written(out, Err(refusal), &*buffer)?;
+            print_remainders(out, &[])
+        }
+        Ok(packed) => {
+            print_written(out, Ok(packed.size), &*buffer)?;
+            print_remainders(out, &packed.remainders)
+        }
+    }
 }
 
 // unpack CONTENTS BODY
 pub(crate) fn unpack(out: &mut impl Write, contents: &[u8], body: &[u8]) -> io::Result<()> {
-    let unpacked = codec::unpack(contents, body);
-    let answer = unpacked.answer;
-    print_check(out, answer)?;
-    let numbers = unpacked.numbers;
-    print_numbers(out, numbers)
+    match codec::unpack(contents, body) {
+        Err(refusal) => {
+            print_refusal(out, refusal)?;
+            print_numbers(out, &[])
+        }
+        Ok(numbers) => {
+            print_raw(out, b"ok")?;
+            print_numbers(out, &numbers)
+        }
+    }
 }
 
 // alpha BUFFER IMAGE NUMBER
@@ -66,10 +76,10 @@ pub(crate) fn legal(out: &mut impl Write, text: &[u8]) -> io::Result<()> {
 // read TEXT: the number, and the bytes used.
 pub(crate) fn read(out: &mut impl Write, text: &[u8]) -> io::Result<()> {
     match codec::read_text_number(text) {
-        TextAnswer::Refused(refusal) => print_refusal(out, refusal),
-        TextAnswer::Number(number, used) => {
-            print_number(out, NumberAnswer::Number(number))?;
-            print_count(out, used)
+        Err(refusal) => print_refusal(out, refusal),
+        Ok(read) => {
+            print_number(out, Ok(read.number))?;
+            print_count(out, read.used)
         }
     }
 }
@@ -83,16 +93,14 @@ pub(crate) fn place(out: &mut impl Write, text: &[u8], from: &[u8]) -> io::Resul
 // numbers TEXT FROM
 pub(crate) fn numbers(out: &mut impl Write, text: &[u8], from: &[u8]) -> io::Result<()> {
     let walked = codec::read_text_numbers(text, whole(from));
-    let answer = walked.answer;
-    match answer {
-        WalkAnswer::End => print_raw(out, b"end")?,
-        WalkAnswer::NoNumber => print_raw(out, b"none")?,
-        WalkAnswer::TooMany => print_raw(out, b"many")?,
-        WalkAnswer::Refused(refusal) => print_refusal(out, refusal)?,
+    match walked.answer {
+        Ok(Stop::End) => print_raw(out, b"end")?,
+        Ok(Stop::NoNumber) => print_raw(out, b"none")?,
+        Ok(Stop::TooMany) => print_raw(out, b"many")?,
+        Err(refusal) => print_refusal(out, refusal)?,
     }
     print_count(out, walked.place)?;
-    let numbers = walked.numbers;
-    print_numbers(out, numbers)
+    print_numbers(out, &walked.numbers)
 }
 
 // scan LINE AT
@@ -109,13 +117,12 @@ pub(crate) fn print(
     elements: &[u8],
     texts: &[u8],
 ) -> io::Result<()> {
-    let count = element_count(elements);
-    match records::print(line, elements_in(elements), count, texts, &mut *buffer) {
-        PrintAnswer::Refused(refusal) => print_refusal(out, refusal)?,
-        PrintAnswer::Printed(length, spilled) => {
+    match records::print(line, &elements_in(elements), texts, &mut *buffer) {
+        Err(refusal) => print_refusal(out, refusal)?,
+        Ok(printed) => {
             print_raw(out, b"ok")?;
-            print_bytes(out, front(&*buffer, length))?;
-            print_count(out, spilled)?;
+            print_bytes(out, codec::written_part(Ok(printed.bytes), &*buffer))?;
+            print_count(out, printed.spilled)?;
         }
     }
     print_buffer(out, &*buffer)
@@ -124,8 +131,8 @@ pub(crate) fn print(
 // forecast LENGTH COUNT
 pub(crate) fn forecast(out: &mut impl Write, length: &[u8], count: &[u8]) -> io::Result<()> {
     match records::forecast(whole(length), whole(count)) {
-        ForecastAnswer::Refused(refusal) => print_refusal(out, refusal),
-        ForecastAnswer::Bytes(bytes) => {
+        Err(refusal) => print_refusal(out, refusal),
+        Ok(bytes) => {
             print_raw(out, b"ok")?;
             print_count(out, bytes)
         }
@@ -145,9 +152,9 @@ pub(crate) fn add(
     used: &[u8],
     numbers: &[u8],
 ) -> io::Result<()> {
-    match records::add(whole(used), numbers_in(numbers), &mut *buffer) {
-        AddAnswer::Refused(refusal) => print_refusal(out, refusal)?,
-        AddAnswer::Added(length) => {
+    match records::add(whole(used), &numbers_in(numbers), &mut *buffer) {
+        Err(refusal) => print_refusal(out, refusal)?,
+        Ok(length) => {
             print_raw(out, b"ok")?;
             print_count(out, length)?;
         }
@@ -159,11 +166,11 @@ pub(crate) fn add(
 pub(crate) fn show(out: &mut impl Write, file: &[u8], index: &[u8]) -> io::Result<()> {
     let record = whole(index);
     match records::show(file, record) {
-        ShowAnswer::Refused(refusal) => print_refusal(out, refusal)?,
-        ShowAnswer::Shown(start, length) => {
+        Err(refusal) => print_refusal(out, refusal)?,
+        Ok(body) => {
             print_raw(out, b"ok")?;
-            print_count(out, start)?;
-            print_count(out, length)?;
+            print_count(out, body.start)?;
+            print_count(out, body.len())?;
         }
     }
     print_bytes(out, records::shown_body(file, record))
@@ -181,37 +188,42 @@ pub(crate) fn report(out: &mut impl Write, buffer: &mut [u8], file: &[u8]) -> io
     print_written(out, answer, &*buffer)
 }
 
-// find FILE POSITIONS: the count of comparisons, and the record numbers, those past the last position too.
+// Writes record numbers: as many as a page can have, zeros behind the last one.
+fn print_records(out: &mut impl Write, records: &[usize]) -> io::Result<()> {
+    for i in 0..POSITIONS {
+        print_count(out, records.get(i).copied().unwrap_or(0))?;
+    }
+    Ok(())
+}
+
+// find FILE POSITIONS: the count of comparisons, and the record numbers.
 pub(crate) fn find(out: &mut impl Write, file: &[u8], positions: &[u8]) -> io::Result<()> {
-    let found = rolls::find(file, positions_in(positions));
-    let answer = found.answer;
-    match answer {
-        FindAnswer::Refused(refusal) => print_refusal(out, refusal)?,
-        FindAnswer::Found(comparisons) => {
+    match rolls::find(file, &numbers_in(positions)) {
+        Err(refusal) => {
+            print_refusal(out, refusal)?;
+            print_records(out, &[])
+        }
+        Ok(found) => {
             print_raw(out, b"ok")?;
-            print_count(out, comparisons)?;
+            print_count(out, found.comparisons)?;
+            print_records(out, &found.records)
         }
     }
-    let records = found.records;
-    print_counts(out, &records)
 }
 
 // compare NUMBER NUMBER
 pub(crate) fn compare(out: &mut impl Write, first: &[u8], second: &[u8]) -> io::Result<()> {
     match decimal::compare(number_in(first), number_in(second)) {
-        OrderAnswer::Refused(refusal) => print_refusal(out, refusal),
-        OrderAnswer::Order(order) => match order {
-            Order::Less => print_raw(out, b"ok less"),
-            Order::Equal => print_raw(out, b"ok equal"),
-            Order::Greater => print_raw(out, b"ok greater"),
-        },
+        Err(refusal) => print_refusal(out, refusal),
+        Ok(Ordering::Less) => print_raw(out, b"ok less"),
+        Ok(Ordering::Equal) => print_raw(out, b"ok equal"),
+        Ok(Ordering::Greater) => print_raw(out, b"ok greater"),
     }
 }
 
 // Writes an image.
 fn print_image(out: &mut impl Write, image: Image) -> io::Result<()> {
-    let sign = image.sign;
-    match sign {
+    match image.sign {
         Sign::Unsigned => print_raw(out, b"ok unsigned")?,
         Sign::Plus => print_raw(out, b"ok plus")?,
         Sign::Minus => print_raw(out, b"ok minus")?,
@@ -227,8 +239,8 @@ fn print_image(out: &mut impl Write, image: Image) -> io::Result<()> {
 // image IMAGE PLACE
 pub(crate) fn image(out: &mut impl Write, bytes: &[u8], place: &[u8]) -> io::Result<()> {
     match decimal::read_image(bytes, whole(place)) {
-        ImageAnswer::Refused(refusal) => print_refusal(out, refusal),
-        ImageAnswer::Image(image) => print_image(out, image),
+        Err(refusal) => print_refusal(out, refusal),
+        Ok(image) => print_image(out, image),
     }
 }
 
@@ -241,22 +253,21 @@ pub(crate) fn truncate(
 ) -> io::Result<()> {
     let at = whole(place);
     let value = number_in(number);
-    match decimal::read_image(bytes, at) {
-        ImageAnswer::Refused(refusal) => print_refusal(out, refusal),
-        ImageAnswer::Image(image) => {
-            print_number(out, decimal::truncated(image, value, at))?;
-            let parts = decimal::truncate(image, value, at);
-            print_parts(out, parts.negative, parts.halves, parts.x)?;
-            print_raw(out, b" packing ")?;
-            print_check(out, decimal::fit_packed(image, value, at))?;
-            print_raw(out, b" cut off ")?;
-            match decimal::remainder_of(image, value, at) {
-                RemainderAnswer::Refused(refusal) => print_refusal(out, refusal),
-                RemainderAnswer::Remainder(remainder) => {
-                    print_raw(out, b"ok")?;
-                    print_remainder(out, remainder)
-                }
-            }
+    let image = match decimal::read_image(bytes, at) {
+        Err(refusal) => return print_refusal(out, refusal),
+        Ok(image) => image,
+    };
+    print_number(out, decimal::truncated(image, value, at))?;
+    let parts = decimal::truncate(image, value, at).unwrap_or(Truncation::ZERO);
+    print_parts(out, parts.negative, parts.halves, parts.x)?;
+    print_raw(out, b" packing ")?;
+    print_check(out, decimal::fit_packed(image, value, at))?;
+    print_raw(out, b" cut off ")?;
+    match decimal::remainder_of(image, value, at) {
+        Err(refusal) => print_refusal(out, refusal),
+        Ok(remainder) => {
+            print_raw(out, b"ok")?;
+            print_remainder(out, remainder)
         }
     }
 }

@@ -8,8 +8,7 @@ mod shown;
 mod words;
 
 use crate::shown::{print_damaged, print_number, print_raw};
-use crate::words::{decode, end_at, front, is_bytes, whole, word};
-use console::Input;
+use crate::words::{decode, end_of, is_bytes, whole, word};
 use std::io;
 use std::io::Write;
 
@@ -64,12 +63,7 @@ fn is_call(line: &[u8]) -> bool {
     if 8 < word(line, 0).len() {
         return false;
     }
-    for i in 1..5 {
-        if !is_bytes(word(line, i)) {
-            return false;
-        }
-    }
-    true
+    (1..5).all(|i| is_bytes(word(line, i)))
 }
 
 // Answers a line.
@@ -85,30 +79,27 @@ fn answer_line(out: &mut impl Write, line: &[u8]) -> io::Result<()> {
     let b = decode(word(line, 2), &mut second);
     let c = decode(word(line, 3), &mut third);
     let d = decode(word(line, 4), &mut fourth);
-    if SPACE < a {
-        return Ok(());
-    }
     make(
         out,
         whole(word(line, 0)),
         &mut first[..a],
-        front(&second, b),
-        front(&third, c),
-        front(&fourth, d),
+        &second[..b],
+        &third[..c],
+        &fourth[..d],
     )
 }
 
 // Answers all lines.
 fn answer_lines(out: &mut impl Write, input: &[u8]) -> io::Result<()> {
-    let mut start = 0;
-    while start < input.len() {
-        let end = end_at(input, start, b'\n');
-        answer_line(out, &input[start..end])?;
+    let mut rest = input;
+    while !rest.is_empty() {
+        let (line, behind) = rest.split_at(end_of(rest, b'\n'));
+        answer_line(out, line)?;
         print_raw(out, b"\n")?;
-        if end == input.len() {
-            return Ok(());
-        }
-        start = end + 1;
+        let [_, next @ ..] = behind else {
+            break;
+        };
+        rest = next;
     }
     Ok(())
 }
@@ -126,8 +117,7 @@ fn answer_input(rt: &impl Print, input: &[u8]) -> io::Result<()> {
 // Reads the input, and answers it.
 fn main(rt: HostRuntime) {
     let mut input = [0u8; INPUT];
-    let Input::Bytes(size) = console::read_input(&rt, &mut input) else {
-        return;
-    };
-    console::is_written(&rt, answer_input(&rt, front(&input, size)));
+    if let Ok(size) = console::read_input(&rt, &mut input) {
+        console::is_written(&rt, answer_input(&rt, &input[..size]));
+    }
 }

@@ -1,7 +1,6 @@
 // Small writers to an output.
-use crate::words::front;
-use codec::{Numbers, Remainders, WriteAnswer};
-use decimal::{CheckAnswer, EXPONENT_LIMIT, Number, NumberAnswer, Refusal, Remainder, SCALE};
+use codec::COLUMNS;
+use decimal::{EXPONENT_LIMIT, Number, Refusal, Remainder, SCALE};
 use std::io;
 use std::io::Write;
 
@@ -15,14 +14,6 @@ pub(crate) fn print_count(out: &mut impl Write, count: usize) -> io::Result<()> 
     write!(out, " {count}")
 }
 
-// Writes counts, a blank before each.
-pub(crate) fn print_counts(out: &mut impl Write, counts: &[usize]) -> io::Result<()> {
-    for count in counts {
-        print_count(out, *count)?;
-    }
-    Ok(())
-}
-
 // Writes a byte in hexadecimal.
 fn print_byte(out: &mut impl Write, byte: u8) -> io::Result<()> {
     write!(out, "{byte:02x}")
@@ -31,7 +22,7 @@ fn print_byte(out: &mut impl Write, byte: u8) -> io::Result<()> {
 // Writes a blank and bytes in hexadecimal, a dot for none.
 pub(crate) fn print_bytes(out: &mut impl Write, bytes: &[u8]) -> io::Result<()> {
     print_raw(out, b" ")?;
-    if bytes.len() == 0 {
+    if bytes.is_empty() {
         print_raw(out, b".")?;
     }
     for byte in bytes {
@@ -42,9 +33,7 @@ pub(crate) fn print_bytes(out: &mut impl Write, bytes: &[u8]) -> io::Result<()> 
 
 // Writes a refusal.
 pub(crate) fn print_refusal(out: &mut impl Write, refusal: Refusal) -> io::Result<()> {
-    print_raw(out, b"refused")?;
-    print_count(out, refusal.number as usize)?;
-    print_count(out, refusal.place)
+    write!(out, "{refusal}")
 }
 
 // Writes a whole number, e and a power, which is held with some excess added.
@@ -80,10 +69,13 @@ pub(crate) fn print_remainder(out: &mut impl Write, remainder: Remainder) -> io:
 }
 
 // Writes a number's answer.
-pub(crate) fn print_number(out: &mut impl Write, answer: NumberAnswer) -> io::Result<()> {
+pub(crate) fn print_number(
+    out: &mut impl Write,
+    answer: Result<Number, Refusal>,
+) -> io::Result<()> {
     match answer {
-        NumberAnswer::Refused(refusal) => print_refusal(out, refusal),
-        NumberAnswer::Number(number) => {
+        Err(refusal) => print_refusal(out, refusal),
+        Ok(number) => {
             print_raw(out, b"ok")?;
             print_parts(out, number.negative, number.mantissa, number.exponent)
         }
@@ -91,27 +83,28 @@ pub(crate) fn print_number(out: &mut impl Write, answer: NumberAnswer) -> io::Re
 }
 
 // Writes what a check found.
-pub(crate) fn print_check(out: &mut impl Write, answer: CheckAnswer) -> io::Result<()> {
+pub(crate) fn print_check(out: &mut impl Write, answer: Result<(), Refusal>) -> io::Result<()> {
     match answer {
-        CheckAnswer::Refused(refusal) => print_refusal(out, refusal),
-        CheckAnswer::Fine => print_raw(out, b"ok"),
+        Err(refusal) => print_refusal(out, refusal),
+        Ok(()) => print_raw(out, b"ok"),
     }
 }
 
-// Writes a list of numbers: its count, and all values, those past the count too.
-pub(crate) fn print_numbers(out: &mut impl Write, numbers: Numbers) -> io::Result<()> {
-    print_count(out, numbers.count)?;
-    for number in &numbers.values {
+// Writes a list of numbers: its count, and as many values as a list can have, zeros behind the last one.
+pub(crate) fn print_numbers(out: &mut impl Write, numbers: &[Number]) -> io::Result<()> {
+    print_count(out, numbers.len())?;
+    for i in 0..COLUMNS {
+        let number = numbers.get(i).copied().unwrap_or(Number::ZERO);
         print_parts(out, number.negative, number.mantissa, number.exponent)?;
     }
     Ok(())
 }
 
-// Writes a list of remainders: its count, and all values, those past the count too.
-pub(crate) fn print_remainders(out: &mut impl Write, remainders: Remainders) -> io::Result<()> {
-    print_count(out, remainders.count)?;
-    for remainder in &remainders.values {
-        print_remainder(out, *remainder)?;
+// Writes a list of remainders: its count, and as many values as a list can have, zeros behind the last one.
+pub(crate) fn print_remainders(out: &mut impl Write, remainders: &[Remainder]) -> io::Result<()> {
+    print_count(out, remainders.len())?;
+    for i in 0..COLUMNS {
+        print_remainder(out, remainders.get(i).copied().unwrap_or(Remainder::ZERO))?;
     }
     Ok(())
 }
@@ -119,14 +112,14 @@ pub(crate) fn print_remainders(out: &mut impl Write, remainders: Remainders) -> 
 // Writes the answer of a call that writes, what it wrote, and the whole buffer.
 pub(crate) fn print_written(
     out: &mut impl Write,
-    answer: WriteAnswer,
+    answer: Result<usize, Refusal>,
     buffer: &[u8],
 ) -> io::Result<()> {
     match answer {
-        WriteAnswer::Refused(refusal) => print_refusal(out, refusal)?,
-        WriteAnswer::Written(size) => {
+        Err(refusal) => print_refusal(out, refusal)?,
+        Ok(_) => {
             print_raw(out, b"ok")?;
-            print_bytes(out, front(buffer, size))?;
+            print_bytes(out, codec::written_part(answer, buffer))?;
         }
     }
     print_buffer(out, buffer)

@@ -1,63 +1,40 @@
 // Reading a line: words parted by one blank, the first a call's name, the others bytes in hexadecimal, a dot for none.
 ghost use Rattle.std.specs.Prelude.{◌≤◌, length};
 
-// The first bytes of some, or all where there are fewer.
-pub(crate) fn front(bytes: &[u8], count: usize) -> &[u8] {
-    if bytes.len() < count {
-        return bytes;
-    }
-    &bytes[..count]
-}
-
-// The next place of a mark, from one on; the end where there is none.
-pub(crate) fn end_at(bytes: &[u8], start: usize, mark: u8) -> usize
-    requires { start ≤ length bytes.now }
-    ensures { (start ≤ result) × (result ≤ length bytes.now) }
+// The place of the first mark; the end where there is none.
+pub(crate) fn end_of(bytes: &[u8], mark: u8) -> usize
+    ensures { result ≤ length bytes.now }
 {
-    let mut end = start;
-    while end < bytes.len() {
-        if bytes[end] == mark {
-            return end;
-        }
-        end += 1;
-    }
-    end
+    bytes
+        .iter()
+        .position(|&byte| byte == mark)
+        .unwrap_or(bytes.len())
 }
 
 // The word of a line with an index from 0; no bytes where there is none.
 pub(crate) fn word(line: &[u8], index: usize) -> &[u8] {
-    let mut start = 0;
+    let mut rest = line;
     for _ in 0..index {
-        let end = end_at(line, start, b' ');
-        if end == line.len() {
-            return &line[end..end];
-        }
-        start = end + 1;
+        let (_, behind) = rest.split_at(end_of(rest, b' '));
+        let [_, next @ ..] = behind else {
+            return &[];
+        };
+        rest = next;
     }
-    let end = end_at(line, start, b' ');
-    &line[start..end]
+    &rest[..end_of(rest, b' ')]
 }
 
 // Whether a byte is a digit in hexadecimal.
 fn is_digit(byte: u8) -> bool {
-    match byte {
-        b'0'..=b'9' => true,
-        b'a'..=b'f' => true,
-        _ => false,
-    }
+    matches!(byte, b'0'..=b'9' | b'a'..=b'f')
 }
 
 // Whether a word is bytes in hexadecimal, or a dot.
 pub(crate) fn is_bytes(word: &[u8]) -> bool {
-    if word.len() == 1 {
-        return word[0] == b'.';
+    match word {
+        [byte] => *byte == b'.',
+        _ => word.len() % 2 == 0 && word.iter().all(|&byte| is_digit(byte)),
     }
-    for byte in word {
-        if !is_digit(*byte) {
-            return false;
-        }
-    }
-    word.len() % 2 == 0
 }
 
 // The worth of a digit in hexadecimal, 0 for any other byte.
@@ -77,18 +54,14 @@ fn byte_of(high: u8, low: u8) -> u8 {
 }
 
 // Puts the bytes that a word has in hexadecimal into a buffer, and gives their count; those that find no room are left out.
-pub(crate) fn decode(word: &[u8], buffer: &mut [u8]) -> usize {
-    let mut at = 0;
-    let mut count = 0;
-    while count < buffer.len() {
-        if word.len() - at < 2 {
-            return count;
-        }
-        buffer[count] = byte_of(word[at], word[at + 1]);
-        at += 2;
-        count += 1;
+pub(crate) fn decode(word: &[u8], buffer: &mut [u8]) -> usize
+    ensures { result ≤ length buffer.new }
+{
+    let (pairs, _) = word.as_chunks::<2>();
+    for (byte, &[high, low]) in buffer.iter_mut().zip(pairs) {
+        *byte = byte_of(high, low);
     }
-    count
+    pairs.len().min(buffer.len())
 }
 
 // A byte as a whole number.
@@ -98,9 +71,7 @@ fn wide(byte: u8) -> usize {
 
 // The whole number that bytes are, the first highest; of more than eight the last eight count.
 pub(crate) fn whole(bytes: &[u8]) -> usize {
-    let mut value: usize = 0;
-    for byte in bytes {
-        value = (value << 8) | wide(*byte);
-    }
-    value
+    bytes
+        .iter()
+        .fold(0, |value: usize, &byte| (value << 8) | wide(byte))
 }

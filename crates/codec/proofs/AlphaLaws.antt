@@ -1,39 +1,35 @@
 -- Laws of alpha texts: their length, how their parts are written one behind the other, and when a number has one. Assumes nothing.
 use Prim.Native.Nat.{ℕ, zero, suc, ◌+◌, ◌-◌, ◌*◌, ◌/◌, ◌%◌, ◌^◌, ◌<◌, ◌≤◌}
 use mathlib.Core.Path.{◌≡◌, refl, ap, ap₂, sym, ◌∙◌}
-use mathlib.Core.List.{List, [], ◌∷◌, ◌++◌, append-nil, append_assoc}
+use mathlib.Core.List.{List, [], ◌∷◌, ◌++◌}
 use mathlib.Core.Bool.{Bool, true, false}
 use native.Mathlib.Omega.{arith}
 use native.Mathlib.Nat.{mod-eq_of_lt, div-one}
-use native.Mathlib.Numerals.{add-one}
 use lib.Dec.{ltb}
-use lib.ListN.{length, take, drop, get_or, set, length-append}
-use lib.Seq.{paste, paste-zero, paste-suc, set_split, append_snoc}
+use lib.ListN.{length, get_or, set, length-append, length-set}
 use borrow.Author.Tests.{lt-ltb, le-ltb}
 use Rattle.decimal.specs.declared.image.Sign.{Sign}
 use Rattle.decimal.specs.declared.image.Sign.TheVariants.{Unsigned, Plus, Minus}
 use Rattle.decimal.specs.declared.image.Image.{Image}
 use Rattle.decimal.specs.declared.number.Number.{Number}
-use Rattle.decimal.specs.declared.refusal.Refusal.{Refusal}
-use Rattle.decimal.specs.declared.refusal.CheckAnswer.{CheckAnswer}
-use Rattle.decimal.specs.declared.refusal.CheckAnswer.TheVariants as checks
 use Rattle.decimal.specs.declared.truncation.Truncation.{Truncation}
-use Rattle.decimal.specs.Answer.{Answer, done, refused, ◌then◌, pick}
-use Rattle.decimal.specs.Digits.{digits_of, halves_in}
+use Rattle.decimal.specs.Answer.{Answer, done, refused, ◌then◌, pick, mapped}
+use Rattle.decimal.specs.Digits.{precision, digits_of, halves_in}
 use Rattle.decimal.specs.Number.{exponent_limit}
 use Rattle.decimal.specs.Image.{hash_byte, plus_byte, minus_byte, point_byte, sign_bytes, times, fraction_bytes, up_bytes, image_bytes, read_image}
 use Rattle.decimal.specs.Truncation.{Truncated, truncation, truncation_of}
 use Rattle.decimal.proofs.DigitLaws.{digits_length}
-use Rattle.decimal.proofs.PackedLaws.{halves_length, half_at}
+use Rattle.decimal.proofs.PackedLaws.{halves_length, half_at, shifted_halves}
 use Rattle.decimal.proofs.ImageLaws.{times_length, read_done}
 use Rattle.decimal.proofs.TruncationLaws.{truncation_fit, truncation_done}
-use Rattle.decimal.proofs.AnswerLaws.{never, one_answer}
-use Rattle.codec.specs.Answers.{stored_in, within, sized, written}
+use Rattle.decimal.proofs.AnswerLaws.{never, one_answer, mapped_back}
+use Rattle.codec.specs.Answers.{stored_in, within, sized}
 use Rattle.codec.proofs.FitLaws.{truncation_held, truncation_held_by}
-use Rattle.codec.proofs.BufferLaws.{written_pasted, written_none, written_stored, written_length, written_next}
+use Rattle.codec.proofs.BufferLaws.{front_more, front_all}
 use Rattle.codec.specs.Columns.{sign_count}
+use Rattle.codec.proofs.ContentsLaws.{sign_few}
 use Rattle.codec.specs.Packing.{exponent_size, held_by, Held}
-use Rattle.codec.specs.Alpha.{blank_byte, zero_byte, exponent_byte, digit_bytes, sign_text, fraction_text, exponent_text, alpha_text, alpha_under, alpha_of, writing_alpha_under, writing_alpha, zero_at, fraction_length, exponent_length, tail_length, text_length}
+use Rattle.codec.specs.Alpha.{zero_byte, exponent_byte, digit_bytes, sign_text, fraction_text, exponent_text, alpha_text, alpha_under, alpha_of, writing_alpha_under, writing_alpha, zero_at, fraction_length, exponent_length, tail_length, text_length}
 
 -- Lengths.
 
@@ -48,7 +44,7 @@ shown_length : (n k : ℕ) → length (digit_bytes (digits_of n k)) ≡ n
 shown_length n k = digit_bytes_length (digits_of n k) ∙ digits_length n k
 
 -- a sign is one byte
-sign_text_length : (s : Sign) (negative : Bool) → length (sign_text s negative) ≡ sign_count s
+pub sign_text_length : (s : Sign) (negative : Bool) → length (sign_text s negative) ≡ sign_count s
 unfolding sign_text
 sign_text_length Unsigned negative = refl
 sign_text_length Plus negative = refl
@@ -72,14 +68,24 @@ unfolding fraction_length
 fraction_few zero = omega arith
 fraction_few (suc f) = omega arith
 
+-- the digits are one less
+pub fraction_less : (f : ℕ) {m : ℕ} → m ≡ fraction_length f → m - 1 ≡ f
+unfolding fraction_length
+fraction_less zero e = omega arith
+fraction_less (suc f) e = omega arith
+
+-- so the length is that of so many digits
+pub fraction_same : (f : ℕ) {m : ℕ} → m ≡ fraction_length f → m ≡ fraction_length (m - 1)
+fraction_same f e = e ∙ ap fraction_length (sym (fraction_less f e))
+
 -- the fraction has its length
-fraction_text_length : (f whole : ℕ) → length (fraction_text f whole) ≡ fraction_length f
+pub fraction_text_length : (f whole : ℕ) → length (fraction_text f whole) ≡ fraction_length f
 unfolding fraction_text fraction_length
 fraction_text_length zero whole = refl
 fraction_text_length (suc f) whole = ap suc (shown_length (suc f) whole)
 
 -- the exponent has its length
-exponent_text_length : (e : Bool) (t : Truncated) → length (exponent_text e t) ≡ exponent_length e
+pub exponent_text_length : (e : Bool) (t : Truncated) → length (exponent_text e t) ≡ exponent_length e
 unfolding exponent_text exponent_length
 exponent_text_length true t = ap (λ (n : ℕ). suc (suc n)) (shown_length 2 (exponent_size t))
 exponent_text_length false t = refl
@@ -106,14 +112,6 @@ module _ (im : Image) (t : Truncated) where
   abbrev pub integer_text : List ℕ
   integer_text = digit_bytes (digits_of im.integer (t.whole / 10 ^ im.fraction))
 
-  -- with the sign before them
-  abbrev pub front_text : List ℕ
-  front_text = sign_text im.sign t.negative ++ integer_text
-
-  -- and with the point and the digits behind it
-  abbrev pub fixed_text : List ℕ
-  fixed_text = front_text ++ fraction_text im.fraction t.whole
-
   -- a text has the length that the code finds
   pub text_length_lem : length (alpha_text im t) ≡ text_length im
   unfolding alpha_text text_length
@@ -128,7 +126,7 @@ module _ (im : Image) (t : Truncated) where
       )
 
 -- an image's sign has the length of the text's
-sign_bytes_length : (s : Sign) → length (sign_bytes s) ≡ sign_count s
+pub sign_bytes_length : (s : Sign) → length (sign_bytes s) ≡ sign_count s
 unfolding sign_bytes
 sign_bytes_length Unsigned = refl
 sign_bytes_length Plus = refl
@@ -193,117 +191,31 @@ sign_minus Unsigned h e = absurd (omega arith)
 sign_minus Plus h e = rw e
 sign_minus Minus h e = rw e
 
--- Writing a text into a buffer.
-
--- the bytes that are written so far from a place on, before the buffer's others
-unfoldable pub written_to : List ℕ → ℕ → List ℕ → ℕ → List ℕ
-written_to buffer start bytes j = paste buffer start bytes j
-
-module _ (bytes buffer : List ℕ) (start : ℕ) where
-  -- before the first byte
-  pub written_starts : buffer ≡ written_to buffer start bytes 0
-  unfolding written_to
-  written_starts = paste-zero buffer start bytes
-
-  -- one byte more
-  pub written_turns :
-      (after : List ℕ) (j b : ℕ)
-      → after ≡ written_to buffer start bytes j
-      → j < length bytes
-      → start + length bytes ≤ length buffer
-      → b ≡ get_or bytes j 0
-      → set after (start + j) b ≡ written_to buffer start bytes (j + 1)
-  unfolding written_to
-  written_turns after j b e inside room byte =
-      (λ i. set (e i) (start + j) (byte i))
-      ∙ paste-suc buffer start bytes j 0 (omega arith) inside
-      ∙ ap (paste buffer start bytes) (sym (add-one j))
-
-  -- behind the last byte
-  pub written_ends : (after : List ℕ) (j : ℕ) → after ≡ written_to buffer start bytes j → j ≡ length bytes → after ≡ written buffer start bytes
-  unfolding written_to
-  written_ends after j e full = e ∙ written_pasted buffer start bytes j full
-
--- one byte
-byte_written : (b : List ℕ) (start v : ℕ) → start < length b → set b start v ≡ written b start (v ∷ [])
-unfolding written
-byte_written b start v h =
-    let behind : suc start ≡ start + 1 = omega arith in
-    set_split b start v h
-    ∙ sym (append_snoc (take start b) v (drop (suc start) b))
-    ∙ ap (λ (k : ℕ). (take start b ++ (v ∷ [])) ++ drop k b) behind
-
--- one byte behind others
-byte_behind :
-    (b : List ℕ) (start : ℕ) (s : List ℕ) (v : ℕ)
-    → start + length s < length b
-    → set (written b start s) (start + length s) v ≡ written b start (s ++ (v ∷ []))
-byte_behind b start s v h =
-    byte_written (written b start s) (start + length s) v (omega (arith, written_length b start s (omega arith)))
-    ∙ written_next b start s (v ∷ []) (omega arith)
-
--- bytes behind others
-pub written_behind :
-    (b : List ℕ) (start : ℕ) (s t : List ℕ) {w : List ℕ} {place : ℕ}
-    → w ≡ written b start s
-    → place ≡ start + length s
-    → start + length s + length t ≤ length b
-    → written w place t ≡ written b start (s ++ t)
-written_behind b start s t e p h = (λ i. written (e i) (p i) t) ∙ written_next b start s t h
-
--- four bytes
-pub four_written :
-    (b : List ℕ) (start p q r v : ℕ)
-    → start + 4 ≤ length b
-    → set (set (set (set b start p) (start + 1) q) (start + 2) r) (start + 3) v ≡ written b start (p ∷ (q ∷ (r ∷ (v ∷ []))))
-four_written b start p q r v h =
-    ap (λ (w : List ℕ). set (set (set w (start + 1) q) (start + 2) r) (start + 3) v) (byte_written b start p (omega arith))
-    ∙ ap (λ (w : List ℕ). set (set w (start + 2) r) (start + 3) v) (byte_behind b start (p ∷ []) q (omega arith))
-    ∙ ap (λ (w : List ℕ). set w (start + 3) v) (byte_behind b start (p ∷ (q ∷ [])) r (omega arith))
-    ∙ byte_behind b start (p ∷ (q ∷ (r ∷ []))) v (omega arith)
-
 -- The parts of a text.
 
--- the sign
-pub sign_written :
-    (s : Sign) (negative : Bool) (b : List ℕ) {v : ℕ}
-    → (sign_count s ≡ 0 → ⊥)
-    → 0 < length b
+-- the sign, where there is one
+pub sign_filled :
+    (s : Sign) (negative : Bool) (target : List ℕ) {v : ℕ}
+    → length target ≡ sign_count s
+    → 0 < length target
     → v ≡ get_or (sign_text s negative) 0 0
-    → set b 0 v ≡ written b 0 (sign_text s negative)
-unfolding sign_text
-sign_written Unsigned negative b some room e = absurd (some refl)
-sign_written Plus negative b some room e = ap (set b 0) e ∙ byte_written b 0 (pick negative minus_byte plus_byte) room
-sign_written Minus negative b some room e = ap (set b 0) e ∙ byte_written b 0 (pick negative minus_byte blank_byte) room
-
--- no sign
-pub sign_unwritten : (s : Sign) (negative : Bool) (b : List ℕ) → sign_count s ≡ 0 → b ≡ written b 0 (sign_text s negative)
-unfolding sign_text
-sign_unwritten Unsigned negative b none = sym (written_none b)
-sign_unwritten Plus negative b none = absurd (omega arith)
-sign_unwritten Minus negative b none = absurd (omega arith)
-
--- no fraction
-pub fraction_unwritten : (b : List ℕ) (start f whole : ℕ) → f ≡ 0 → b ≡ written b start (fraction_text f whole)
-unfolding fraction_text written
-fraction_unwritten b start zero whole none = paste-zero b start []
-fraction_unwritten b start (suc f) whole none = absurd (omega arith)
+    → set target 0 v ≡ sign_text s negative
+sign_filled s negative target {v} same some e =
+    let long : length target ≡ length (sign_text s negative) = same ∙ sym (sign_text_length s negative) in
+    front_all (sign_text s negative) (set target 0 v) (length-set target 0 v ∙ long) 1 (front_more (sign_text s negative) target long 0 refl some e)
+    (omega (arith, length-set target 0 v, sign_few s))
 
 -- the point and the digits behind it
-pub fraction_written :
-    (b : List ℕ) (start f whole : ℕ) {w : List ℕ} {ds : List ℕ}
-    → (f ≡ 0 → ⊥)
-    → start + fraction_length f ≤ length b
-    → ds ≡ digits_of f whole
-    → w ≡ written (set b start point_byte) (start + 1) (digit_bytes ds)
-    → w ≡ written b start (fraction_text f whole)
+pub fraction_filled : (f whole : ℕ) {n : ℕ} {bytes : List ℕ} → suc n ≡ fraction_length f → bytes ≡ digit_bytes (digits_of n whole) → point_byte ∷ bytes ≡ fraction_text f whole
 unfolding fraction_text fraction_length
-fraction_written b start zero whole some room e h = absurd (some refl)
-fraction_written b start (suc f) whole {w} {ds} some room e h =
-    h
-    ∙ ap (λ (l : List ℕ). written (set b start point_byte) (start + 1) (digit_bytes l)) e
-    ∙ written_behind b start (point_byte ∷ []) (digit_bytes (digits_of (suc f) whole)) (byte_written b start point_byte (omega arith)) refl
-    (omega (arith, shown_length (suc f) whole))
+fraction_filled zero whole h e = absurd (omega arith)
+fraction_filled (suc f) whole {n} h e =
+    let same : n ≡ suc f = omega arith in
+    ap (λ (l : List ℕ). point_byte ∷ l) (e ∙ ap (λ (m : ℕ). digit_bytes (digits_of m whole)) same)
+
+-- where a part has no bytes, its target is that part
+pub nothing_filled : (bytes target : List ℕ) → length target ≡ length bytes → length target ≡ 0 → target ≡ bytes
+nothing_filled bytes target same none = front_all bytes target same 0 refl (omega arith)
 
 -- the exponent's four bytes
 pub exponent_shown :
@@ -321,61 +233,29 @@ exponent_shown x {size} {sign} {tens} {ones} e small signed first last =
     let ones# = last ∙ ap (λ (k : ℕ). zero_byte + k % 10) (sym (div-one size) ∙ ap (λ (k : ℕ). k / 1) e) in
     λ i. exponent_byte ∷ (signed i ∷ (tens# i ∷ (ones# i ∷ [])))
 
-module _ (im : Image) (t : Truncated) (b : List ℕ) (room : text_length im ≤ length b) where
-  -- their lengths
-  front_length : length (front_text im t) ≡ sign_count im.sign + im.integer
-  front_length =
-      length-append (sign_text im.sign t.negative) (integer_text im t)
-      ∙ ap₂ ◌+◌ (sign_text_length im.sign t.negative) (shown_length im.integer (t.whole / 10 ^ im.fraction))
+-- the exponent is that of x
+exponent_alike : (e : Bool) (t : Truncated) → exponent_text e (zero_at t.x) ≡ exponent_text e t
+unfolding exponent_text exponent_size
+exponent_alike true t = refl
+exponent_alike false t = refl
 
-  fixed_length : length (fixed_text im t) ≡ sign_count im.sign + im.integer + fraction_length im.fraction
-  fixed_length =
-      length-append (front_text im t) (fraction_text im.fraction t.whole)
-      ∙ ap₂ ◌+◌ front_length (fraction_text_length im.fraction t.whole)
-
-  -- the digits before the point are written behind the sign
-  pub integer_step :
-      {w ds : List ℕ} {place : ℕ}
-      → w ≡ written b 0 (sign_text im.sign t.negative)
-      → place ≡ sign_count im.sign
-      → ds ≡ digits_of im.integer (t.whole / 10 ^ im.fraction)
-      → written w place (digit_bytes ds) ≡ written b 0 (front_text im t)
-  unfolding text_length tail_length
-  integer_step {w} {ds} {place} e p d =
-      let signs = sign_text_length im.sign t.negative in
-      ap (λ (l : List ℕ). written w place (digit_bytes l)) d
-      ∙ written_behind b 0 (sign_text im.sign t.negative) (integer_text im t) e (omega arith)
-      (omega (arith, shown_length im.integer (t.whole / 10 ^ im.fraction)))
-
-  -- the fraction behind them
-  pub fraction_step :
-      {w : List ℕ} {place : ℕ}
-      → w ≡ written b 0 (front_text im t)
-      → place ≡ sign_count im.sign + im.integer
-      → written w place (fraction_text im.fraction t.whole) ≡ written b 0 (fixed_text im t)
-  unfolding text_length tail_length
-  fraction_step e p =
-      written_behind b 0 (front_text im t) (fraction_text im.fraction t.whole) e (omega (arith, front_length))
-      (omega (arith, front_length, fraction_text_length im.fraction t.whole))
-
-  -- these are the whole text in fixed point
-  pub fixed_end : {w : List ℕ} → im.exponential ≡ false → w ≡ written b 0 (fixed_text im t) → w ≡ stored_in (done (alpha_text im t)) b
-  unfolding alpha_text exponent_text
-  fixed_end kind e = e ∙ written_stored b (fixed_text im t) ∙ rw kind (simp (append_assoc, append-nil))
-
-  -- else the exponent is written behind them
-  pub exponent_end :
-      {w : List ℕ} {place : ℕ}
-      → im.exponential ≡ true
-      → w ≡ written b 0 (fixed_text im t)
-      → place ≡ sign_count im.sign + im.integer + fraction_length im.fraction
-      → written w place (exponent_text true (zero_at t.x)) ≡ stored_in (done (alpha_text im t)) b
-  unfolding alpha_text exponent_text exponent_size text_length tail_length
-  exponent_end kind e p =
-      written_behind b 0 (fixed_text im t) (exponent_text true t) e (omega (arith, fixed_length))
-      (omega (arith, fixed_length, exponent_text_length true t, ap exponent_length kind))
-      ∙ written_stored b (fixed_text im t ++ exponent_text true t)
-      ∙ rw kind (simp append_assoc)
+-- the text is its parts, one behind the other
+pub text_filled :
+    {im : Image} {r : Truncation} {signs digits point exponent : List ℕ} {n m : ℕ}
+    → Held im r
+    → signs ≡ sign_text im.sign r.negative
+    → n ≡ im.integer
+    → digits ≡ digit_bytes (halves_in n (r.halves / 2 ^ (4 * im.fraction)))
+    → m ≡ fraction_length im.fraction
+    → point ≡ fraction_text (m - 1) (held_by r).whole
+    → exponent ≡ exponent_text im.exponential (zero_at r.x)
+    → signs ++ (digits ++ (point ++ exponent)) ≡ alpha_text im (held_by r)
+unfolding alpha_text
+text_filled {im} {r} {n = n} {m} held signed many digited long pointed raised =
+    let whole : ℕ = (held_by r).whole in
+    let shown =
+    ap₂ (λ (k h : ℕ). halves_in k (h / 2 ^ (4 * im.fraction))) many held.digits ∙ shifted_halves precision im.integer im.fraction whole held.size in
+    rw (signed, digited, shown, pointed, fraction_less im.fraction long, raised, exponent_alike im.exponential (held_by r)) refl
 
 -- What a call that writes answers, and the buffer behind it.
 
@@ -405,54 +285,17 @@ pub record Found (im : Image) (n : Number) (r : Truncation) : Type 0 where
   pub same : held_by r ≡ to
   pub is_held : Held im r
 
--- a refusal is no truncation
-held_never : (im : Image) (n : Number) (r : Truncation) (number place : ℕ) → r ≡ truncation_of (refused number place) → r.answer ≡ checks.Fine → Found im n r
-unfolding truncation_of
-held_never im n r number place e a =
-    let other = sym (ap (λ (s : Truncation). s.answer) e) ∙ a in
-    let z : ◌≡◌ {A = ℕ} 0 1 = cc in
-    absurd (omega arith)
-
 -- a number that is not refused is held
-pub truncation_found : (im : Image) (n : Number) (r : Truncation) → r ≡ truncation_of (truncation 0 im n) → r.answer ≡ checks.Fine → Found im n r
-truncation_found im n r e a = go (truncation 0 im n) refl
-  where
-    go : (t : Answer Truncated) → truncation 0 im n ≡ t → Found im n r
-    go (done t) h =
-        let fit = truncation_fit 0 im n h in
-        record {
-          to = t;
-          truncated = h;
-          same = truncation_held_by im n fit r e ∙ sym (truncation_done 0 im n h);
-          is_held = truncation_held im n fit r e;
-        }
-    go (refused number place) h = held_never im n r number place (e ∙ ap truncation_of h) a
-
--- a refusal is the answer's
-held_answer :
-    (a : Answer Truncated) (r : Truncation) (refusal : Refusal)
-    → r ≡ truncation_of a
-    → r.answer ≡ checks.Refused refusal
-    → a ≡ refused refusal.number refusal.place
-unfolding truncation_of
-held_answer (done t) r refusal e a =
-    let other = sym (ap (λ (s : Truncation). s.answer) e) ∙ a in
-    let z : ◌≡◌ {A = ℕ} 0 1 = cc in
-    absurd (omega arith)
-held_answer (refused number place) r refusal e a =
-    ap (λ (f : CheckAnswer). refusalOf f) (sym (ap (λ (s : Truncation). s.answer) e) ∙ a)
-  where
-    refusalOf : CheckAnswer → Answer Truncated
-    refusalOf checks.Fine = refused 0 0
-    refusalOf (checks.Refused q) = refused q.number q.place
-
--- a number that is refused is refused as the code says
-pub truncation_refused :
-    (im : Image) (n : Number) (r : Truncation) (refusal : Refusal)
-    → r ≡ truncation_of (truncation 0 im n)
-    → r.answer ≡ checks.Refused refusal
-    → truncation 0 im n ≡ refused refusal.number refusal.place
-truncation_refused im n r refusal e a = held_answer (truncation 0 im n) r refusal e a
+pub truncation_found : (im : Image) (n : Number) {r : Truncation} → done r ≡ mapped truncation_of (truncation 0 im n) → Found im n r
+truncation_found im n {r} e =
+    let t = mapped_back truncation_of (truncation 0 im n) e in
+    let fit = truncation_fit 0 im n t.1 in
+    record {
+      to = t.0;
+      truncated = t.1;
+      same = truncation_held_by im n fit e ∙ sym (truncation_done 0 im n t.1);
+      is_held = truncation_held im n fit e;
+    }
 
 module _ (im : Image) (n : Number) where
   -- under an image that is read 3, 4 and 5 are the number's
@@ -510,10 +353,6 @@ module _ (bytes : List ℕ) (n : Number) where
     unfolding writing_alpha writing_alpha_under
     writing_read room = ap (λ (a : Answer (List ℕ)). a then within room) alpha_read
 
-    -- a number that the image can truncate has a text
-    pub alpha_done : {t : Truncated} → truncation 0 im n ≡ done t → alpha_of bytes n ≡ done (alpha_text im t)
-    alpha_done h = alpha_read ∙ under_done im n h
-
   -- Published: the text has the image's length.
   pub alpha_length : {text : List ℕ} → alpha_of bytes n ≡ done text → length text ≡ length bytes
   alpha_length {text} h = go (read_image 0 bytes) refl
@@ -527,8 +366,3 @@ module _ (bytes : List ℕ) (n : Number) where
     pub writing_refused : {number place : ℕ} → alpha_of bytes n ≡ refused number place → writing_alpha bytes n room ≡ refused number place
     unfolding writing_alpha ◌then◌
     writing_refused h = rw h
-
-    -- a text for which there is room is written
-    pub writing_done : {text : List ℕ} → alpha_of bytes n ≡ done text → length text ≤ room → writing_alpha bytes n room ≡ done text
-    unfolding writing_alpha ◌then◌ within
-    writing_done {text} h fits = rw (h, le-ltb room (length text) fits)

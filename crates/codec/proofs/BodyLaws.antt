@@ -1,6 +1,6 @@
 -- Laws of packed bodies: the body that a list packs to, checking and writing its columns from the left, and how the packing call is
 -- refused. Published: a list is packed exactly where it packs, and its body has the length that the images say. Assumes nothing.
-use Prim.Native.Nat.{ℕ, zero, suc, ◌+◌, ◌<◌, ◌≤◌}
+use Prim.Native.Nat.{ℕ, zero, suc, ◌+◌, ◌-◌, ◌<◌, ◌≤◌}
 use mathlib.Core.Path.{◌≡◌, refl, ap, ap₂, sym, ◌∙◌}
 use mathlib.Core.List.{List, [], ◌∷◌, ◌++◌, append-nil, append_assoc}
 use mathlib.Core.Bool.{Bool, true, false}
@@ -8,32 +8,25 @@ use native.Mathlib.Omega.{arith}
 use native.Mathlib.Numerals.{add-one}
 use lib.Dec.{eqb}
 use lib.ListN.{length, take, drop, get_or, length-append, drop_of_length-le}
-use lib.Seq.{get_or-take, length-take-le}
+use lib.Seq.{drop-cons, length-take-le, take-length}
+use Rattle.std.proofs.lemmas.List.{take_all}
 use borrow.Author.Tests.{eq-eqb, ne_eqb, lt-ltb, le-ltb, eqb-true}
 use Rattle.decimal.specs.declared.image.Image.{Image}
 use Rattle.decimal.specs.declared.number.Number.{Number}
 use Rattle.decimal.specs.Answer.{Answer, done, refused, ◌then◌, pick, checked_only}
-use Rattle.decimal.specs.Number.{zero_number}
 use Rattle.decimal.specs.Truncation.{Truncated, truncated_to, packed_truncation, Fit}
 use Rattle.decimal.proofs.KeptLaws.{checked_refused}
-use Rattle.codec.specs.declared.lists.Numbers.{Numbers}
-use Rattle.codec.specs.Answers.{stored_in, within, written}
+use Rattle.decimal.proofs.AnswerLaws.{one_answer}
+use Rattle.codec.specs.Answers.{within, written}
 use Rattle.codec.specs.Columns.{column_size, body_size}
 use Rattle.codec.specs.Contents.{read_alone, check_images}
 use Rattle.codec.specs.Packing.AllPack.{none, one}
-use Rattle.codec.specs.Lists.{list_of}
 use Rattle.codec.specs.Packing.{column_bytes, pack_columns, pack_list, body_of, packing_under, pack_under, packing, PacksUnder, AllPack}
-use Rattle.codec.proofs.ListLaws.{filled_length, filled_take, taken_from}
 use Rattle.codec.proofs.UnderLaws.{pack_under_checked}
-use Rattle.codec.proofs.BufferLaws.{written_length, written_next, written_stored}
+use borrow.Rule.Slice.PartMut.{put_mid}
+use Rattle.codec.proofs.BufferLaws.{part_written, written_next, written_all}
 use Rattle.codec.proofs.HalfLaws.{column_length_lem}
 use Rattle.codec.proofs.PackLaws.{packed_anywhere, packs_under, packs_fit, packs_at, packs_length}
-
--- the first n elements are at most n
-length_take_at_most : {A : Type 0} (n : ℕ) (l : List A) → length (take n l) ≤ n
-length_take_at_most zero l = omega arith
-length_take_at_most (suc n) [] = omega arith
-length_take_at_most (suc n) (x ∷ l) = omega (arith, length_take_at_most n l)
 
 -- the bytes of the truncations, one column behind the other
 unfoldable pub bytes_of : List Image → List Number → List ℕ
@@ -75,6 +68,11 @@ bytes_length (im ∷ ims) [] e = absurd (omega arith)
 bytes_length (im ∷ ims) (n ∷ ns) e =
     length-append (column_bytes im (truncated_to im n)) (bytes_of ims ns)
     ∙ ap₂ (λ (a b : ℕ). a + b) (column_length_lem im (truncated_to im n)) (bytes_length ims ns (omega arith))
+
+-- so a list that is packed column by column has a body of that length
+pub packed_size : (ims : List Image) (ns : List Number) {body : List ℕ} → length ns ≡ length ims → pack_columns 0 ims ns ≡ done body → length body ≡ body_size ims
+packed_size ims ns same h =
+    ap length (one_answer h (packs_columns 0 (columns_pack 0 ims ns same h))) ∙ bytes_length ims ns same
 
 -- the bytes of one column more
 pub bytes_next :
@@ -141,117 +139,97 @@ module _ (column : ℕ) (im : Image) (n : Number) (ims : List Image) (ns : List 
   unfolding pack_columns ◌then◌
   check_refused h = rw (checked_refused (packed_truncation column im n) h)
 
--- The same over arrays, of which the first count elements are the lists.
+-- a list of which no column is refused packs
+pub checked_packs : (ims : List Image) (ns : List Number) → length ns ≡ length ims → checked_only (pack_columns 0 ims ns) ≡ done tt → AllPack ims ns
+checked_packs ims ns same h = columns_pack 0 ims ns same (checked_done (pack_columns 0 ims ns) h).1
 
-module _ (count : ℕ) (ims : List Image) (ns : List Number) (k : ℕ) (d : Image) (e : Number) (here : k < count) (long-ims : count ≤ length ims) (long-ns : count ≤ length ns) where
-  -- the images from a column on
-  images_from : drop k (take count ims) ≡ get_or ims k d ∷ drop (suc k) (take count ims)
-  images_from = taken_from d count ims k here long-ims
+-- The same from a place of the lists on.
 
-  -- and the numbers
-  numbers_from : drop k (take count ns) ≡ get_or ns k e ∷ drop (suc k) (take count ns)
-  numbers_from = taken_from e count ns k here long-ns
-
-  -- and how they are packed
+module _ (ims : List Image) (ns : List Number) (k : ℕ) (d : Image) (e : Number) (here : k < length ims) (there : k < length ns) where
+  -- how the columns are packed from a column on
   columns_from :
-      pack_columns k (drop k (take count ims)) (drop k (take count ns))
-      ≡ pack_columns k (get_or ims k d ∷ drop (suc k) (take count ims)) (get_or ns k e ∷ drop (suc k) (take count ns))
-  columns_from = ap₂ (λ (a : List Image) (b : List Number). pack_columns k a b) images_from numbers_from
+      pack_columns k (drop k ims) (drop k ns) ≡ pack_columns k (get_or ims k d ∷ drop (suc k) ims) (get_or ns k e ∷ drop (suc k) ns)
+  columns_from = ap₂ (λ (a : List Image) (b : List Number). pack_columns k a b) (drop-cons ims k d here) (drop-cons ns k e there)
 
   -- behind a number that packs the rest decides
   pub columns_turn :
       checked_only (packed_truncation k (get_or ims k d) (get_or ns k e)) ≡ done tt
-      → checked_only (pack_columns k (drop k (take count ims)) (drop k (take count ns)))
-      ≡ checked_only (pack_columns (k + 1) (drop (k + 1) (take count ims)) (drop (k + 1) (take count ns)))
+      → checked_only (pack_columns k (drop k ims) (drop k ns)) ≡ checked_only (pack_columns (k + 1) (drop (k + 1) ims) (drop (k + 1) ns))
   columns_turn h =
       ap checked_only columns_from
-      ∙ check_turn k (get_or ims k d) (get_or ns k e) (drop (suc k) (take count ims)) (drop (suc k) (take count ns)) h
-      ∙ ap (λ (i : ℕ). checked_only (pack_columns i (drop i (take count ims)) (drop i (take count ns)))) (sym (add-one k))
+      ∙ check_turn k (get_or ims k d) (get_or ns k e) (drop (suc k) ims) (drop (suc k) ns) h
+      ∙ ap (λ (i : ℕ). checked_only (pack_columns i (drop i ims) (drop i ns))) (sym (add-one k))
 
   -- a number that is refused decides
   pub columns_refused :
       {x y : ℕ}
       → checked_only (packed_truncation k (get_or ims k d) (get_or ns k e)) ≡ refused x y
-      → checked_only (pack_columns k (drop k (take count ims)) (drop k (take count ns))) ≡ refused x y
+      → checked_only (pack_columns k (drop k ims) (drop k ns)) ≡ refused x y
   unfolding checked_only
   columns_refused h =
-      ap checked_only
-      (columns_from ∙ check_refused k (get_or ims k d) (get_or ns k e) (drop (suc k) (take count ims)) (drop (suc k) (take count ns)) h)
+      ap checked_only (columns_from ∙ check_refused k (get_or ims k d) (get_or ns k e) (drop (suc k) ims) (drop (suc k) ns) h)
 
 -- behind the last column nothing is refused
-pub columns_end : (count k : ℕ) (ims : List Image) (ns : List Number) → count ≤ k → checked_only (pack_columns k (drop k (take count ims)) ns) ≡ done tt
+pub columns_end : (k : ℕ) (ims : List Image) (ns : List Number) → length ims ≤ k → checked_only (pack_columns k (drop k ims) ns) ≡ done tt
 unfolding pack_columns checked_only
-columns_end count k ims ns h =
-    ap (λ (l : List Image). checked_only (pack_columns k l ns))
-    (drop_of_length-le (take count ims) {i = k} (omega (arith, length_take_at_most count ims)))
+columns_end k ims ns h = ap (λ (l : List Image). checked_only (pack_columns k l ns)) (drop_of_length-le ims {i = k} h)
 
 -- Writing the columns one behind the other.
 
-module _ (count : ℕ) (ims : List Image) (ns : List Number) (k : ℕ) (d : Image) (e : Number) (here : k < count) (long-ims : count ≤ length ims) (long-ns : count ≤ length ns) where
-  -- each number of a list that packs fits its image
-  pub fits_at : AllPack (take count ims) (take count ns) → Fit (get_or ims k d) (get_or ns k e)
-  fits_at packs =
-      let there : PacksUnder (get_or (take count ims) k d) (get_or (take count ns) k e) = packs_at packs k d e (omega (arith, length-take-le count ims long-ims)) in
-      packs_fit (rw (get_or-take count ims k d here, get_or-take count ns k e here) at there)
+-- each number of a list that packs fits its image
+pub fits_at : {ims : List Image} {ns : List Number} (k : ℕ) (d : Image) (e : Number) → k < length ims → AllPack ims ns → Fit (get_or ims k d) (get_or ns k e)
+fits_at k d e here packs = packs_fit (packs_at packs k d e here)
 
-  -- there is room for each column behind those before it
-  pub room_at : {room : ℕ} → body_size (take count ims) ≤ room → body_size (take k ims) + column_size (get_or ims k d) ≤ room
-  room_at h = omega (arith, size_next ims k d (omega arith), size_front ims (suc k) count (omega arith))
+-- there is room for each column behind those before it
+pub room_at : (ims : List Image) (k : ℕ) (d : Image) → k < length ims → body_size (take k ims) + column_size (get_or ims k d) ≤ body_size ims
+room_at ims k d here =
+    omega (arith, size_next ims k d here, size_front ims (suc k) (length ims) (omega arith), ap body_size (take-length ims))
 
+module _ (ims : List Image) (ns : List Number) (k : ℕ) (d : Image) (e : Number) (here : k < length ims) where
   -- one more column is written
   pub columns_written :
-      {start : ℕ} (first : List ℕ) {now next : List ℕ}
-      → body_size (take count ims) ≤ length first
+      {start size : ℕ} (first : List ℕ) {now part : List ℕ}
+      → AllPack ims ns
+      → length first ≡ body_size ims
       → start ≡ body_size (take k ims)
+      → size ≡ column_size (get_or ims k d)
       → now ≡ written first 0 (bytes_of (take k ims) (take k ns))
-      → next ≡ written now start (column_bytes (get_or ims k d) (truncated_to (get_or ims k d) (get_or ns k e)))
-      → next ≡ written first 0 (bytes_of (take (k + 1) ims) (take (k + 1) ns))
-  columns_written {start} first {now} {next} room at-start before after =
+      → part ≡ column_bytes (get_or ims k d) (truncated_to (get_or ims k d) (get_or ns k e))
+      → put_mid start (start + size - start) now part ≡ written first 0 (bytes_of (take (k + 1) ims) (take (k + 1) ns))
+  columns_written {start} {size} first {now} {part} packs room at-start sized before after =
+      let many = packs_length packs in
       let done-so-far : List ℕ = bytes_of (take k ims) (take k ns) in
       let column : List ℕ = column_bytes (get_or ims k d) (truncated_to (get_or ims k d) (get_or ns k e)) in
       let same : length (take k ns) ≡ length (take k ims) =
       length-take-le k ns (omega arith) ∙ sym (length-take-le k ims (omega arith)) in
-      let size : length done-so-far ≡ body_size (take k ims) = bytes_length (take k ims) (take k ns) same in
+      let long-so-far : length done-so-far ≡ body_size (take k ims) = bytes_length (take k ims) (take k ns) same in
       let place : start ≡ 0 + length done-so-far = omega arith in
       let long : length column ≡ column_size (get_or ims k d) = column_length_lem (get_or ims k d) (truncated_to (get_or ims k d) (get_or ns k e)) in
-      after
+      part_written now start (start + size - start) after (omega arith)
       ∙ ap₂ (λ (b : List ℕ) (p : ℕ). written b p column) before place
-      ∙ written_next first 0 done-so-far column (omega (arith, room_at room))
-      ∙ ap (written first 0) (sym (bytes_next ims ns k d e (omega arith) (omega arith)))
+      ∙ written_next first 0 done-so-far column (omega (arith, room_at ims k d here))
+      ∙ ap (written first 0) (sym (bytes_next ims ns k d e here (omega arith)))
       ∙ ap (λ (i : ℕ). written first 0 (bytes_of (take i ims) (take i ns))) (sym (add-one k))
 
-  -- the buffer keeps its length
-  pub columns_kept :
-      (start : ℕ) (now : List ℕ) {next : List ℕ}
-      → start + column_size (get_or ims k d) ≤ length now
-      → next ≡ written now start (column_bytes (get_or ims k d) (truncated_to (get_or ims k d) (get_or ns k e)))
-      → length next ≡ length now
-  columns_kept start now {next} room after =
-      let column : List ℕ = column_bytes (get_or ims k d) (truncated_to (get_or ims k d) (get_or ns k e)) in
-      let long : length column ≡ column_size (get_or ims k d) = column_length_lem (get_or ims k d) (truncated_to (get_or ims k d) (get_or ns k e)) in
-      ap length after ∙ written_length now start column (omega arith)
+-- behind the last column the body is the bytes
+pub columns_all :
+    {ims : List Image} {ns : List Number} (k : ℕ) (first : List ℕ) {now : List ℕ}
+    → AllPack ims ns
+    → length first ≡ body_size ims
+    → length ims ≤ k
+    → now ≡ written first 0 (bytes_of (take k ims) (take k ns))
+    → pack_columns 0 ims ns ≡ done now
+columns_all {ims} {ns} k first {now} packs room all before =
+    let many = packs_length packs in
+    let whole : written first 0 (bytes_of (take k ims) (take k ns)) ≡ written first 0 (bytes_of ims ns) =
+    λ i. written first 0 (bytes_of (take_all k ims all i) (take_all k ns (omega arith) i)) in
+    packs_columns 0 packs ∙ ap {B = Answer (List ℕ)} done (sym (before ∙ whole ∙ written_all first (bytes_of ims ns) (room ∙ sym (bytes_length ims ns many))))
 
 -- and the place behind it
 pub columns_place : (ims : List Image) (k : ℕ) (d : Image) {start size : ℕ} → k < length ims → start ≡ body_size (take k ims) → size ≡ column_size (get_or ims k d) → start + size ≡ body_size (take (k + 1) ims)
 columns_place ims k d h before sized = omega (arith, size_next ims k d h, ap (λ (i : ℕ). body_size (take i ims)) (add-one k))
 
--- with all of them written the body stands at the buffer's start
-pub columns_stored :
-    {ims : List Image} {ns : List Number} (first : List ℕ) → AllPack ims ns → written first 0 (bytes_of ims ns) ≡ stored_in (pack_columns 0 ims ns) first
-columns_stored {ims} {ns} first packs =
-    written_stored first (bytes_of ims ns) ∙ ap (λ (a : Answer (List ℕ)). stored_in a first) (sym (packs_columns 0 packs))
-
 -- The packing call.
-
--- a list has as many numbers as its count says
-pub list_length : (numbers : Numbers) → length (list_of numbers) ≡ numbers.count
-unfolding list_of
-list_length numbers = filled_length zero_number numbers.count numbers.values
-
--- and they are the array's first
-pub list_front : (numbers : Numbers) (k : ℕ) → numbers.count ≡ k → k ≤ length numbers.values → list_of numbers ≡ take k numbers.values
-unfolding list_of
-list_front numbers k e h = rw e (filled_take zero_number k numbers.values h)
 
 -- refused as the contents is
 pub packing_contents :

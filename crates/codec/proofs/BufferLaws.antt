@@ -1,19 +1,31 @@
 -- Laws of a buffer that bytes are written into. Assumes nothing.
 use Prim.Native.Nat.{ℕ, ◌+◌, ◌<◌, ◌≤◌}
 use mathlib.Core.Path.{◌≡◌, refl, ap, ap₂, sym, ◌∙◌}
-use mathlib.Core.List.{List, [], ◌∷◌, ◌++◌, append_assoc}
+use mathlib.Core.List.{List, [], ◌∷◌, ◌++◌, append_assoc, append-nil}
 use native.Mathlib.Omega.{arith}
 use native.Mathlib.Nat.{zero-add}
-use native.Mathlib.Numerals.{add-one}
-use lib.ListN.{length, take, drop, set, length-append, length-drop}
-use lib.Seq.{paste, take_at, drop-drop, drop-append-add, length-take-le, take-length, set_split}
+use lib.ListN.{length, take, drop, get_or, set, length-append, length-drop, drop_of_length-le}
+use lib.Seq.{paste, take_at, drop-drop, drop-append-add, length-take-le, take-length}
+use borrow.Rule.Slice.PartMut.{put_mid}
+use Rattle.std.proofs.lemmas.Slice.{put_mid-paste}
+use Rattle.std.proofs.lemmas.List.{take_all, take_more, take_more_set}
 use Rattle.decimal.specs.Answer.{Answer, done, refused}
+use Rattle.decimal.proofs.AnswerLaws.{never_done}
 use Rattle.codec.specs.Answers.{stored_in, sized, written}
 
 -- bytes copied one by one
 pub written_pasted : (b : List ℕ) (start : ℕ) (s : List ℕ) (n : ℕ) → n ≡ length s → paste b start s n ≡ written b start s
 unfolding written
 written_pasted b start s n e = rw e (ap (λ (l : List ℕ). take start b ++ l ++ drop (start + length s) b) (take-length s))
+
+-- a part of a buffer, from a place on, that the bytes fill
+pub part_written : (b : List ℕ) (start n : ℕ) {part bytes : List ℕ} → part ≡ bytes → n ≡ length bytes → put_mid start n b part ≡ written b start bytes
+part_written b start n {part} {bytes} e h = put_mid-paste start n b part bytes n e refl h ∙ written_pasted b start bytes n h
+
+-- the first part of a buffer, that the bytes fill
+pub part_stored : (b bytes : List ℕ) {part : List ℕ} {n : ℕ} → part ≡ bytes → length bytes ≡ n → part ++ drop n b ≡ stored_in (done bytes) b
+unfolding stored_in
+part_stored b bytes e h = ap₂ (λ (l : List ℕ) (k : ℕ). l ++ drop k b) e (sym h)
 
 -- no bytes
 pub written_none : (b : List ℕ) → written b 0 [] ≡ b
@@ -25,6 +37,26 @@ pub written_stored : (b s : List ℕ) → written b 0 s ≡ stored_in (done s) b
 unfolding written stored_in
 written_stored b s = ap (λ (k : ℕ). s ++ drop k b) (zero-add (length s))
 
+-- over the whole buffer
+pub written_all : (b s : List ℕ) → length b ≡ length s → written b 0 s ≡ s
+unfolding written
+written_all b s h =
+    let none : drop (0 + length s) b ≡ [] = drop_of_length-le b (omega arith) in
+    rw none (append-nil s)
+
+-- what is written is refused as its length is
+pub sized_refused_back : (a : Answer (List ℕ)) {number place : ℕ} → refused number place ≡ sized a → a ≡ refused number place
+unfolding sized
+sized_refused_back (done bytes) h = never_done h
+sized_refused_back (refused x y) {number} {place} h =
+    let same_number : x ≡ number = cc in let same_place : y ≡ place = cc in ap₂ refused same_number same_place
+
+-- and it is done where that is
+pub sized_back : (a : Answer (List ℕ)) {size : ℕ} → done size ≡ sized a → (bytes : List ℕ) × (a ≡ done bytes)
+unfolding sized
+sized_back (done bytes) h = (bytes, refl)
+sized_back (refused x y) h = never_done (sym h)
+
 -- Published: the length that a writing call answers is inside the buffer.
 pub stored_size : (a : Answer (List ℕ)) (b : List ℕ) {after : List ℕ} {size : ℕ} → done size ≡ sized a → after ≡ stored_in a b → size ≤ length after
 unfolding sized stored_in
@@ -32,14 +64,6 @@ stored_size (done bytes) b {after} {size} told same =
     let long : size ≡ length bytes = cc in
     omega (arith, ap length same, length-append bytes (drop (length bytes) b))
 stored_size (refused number place) b {after} {size} told same = let z : ◌≡◌ {A = ℕ} 0 1 = cc in absurd (omega arith)
-
--- one byte stored
-set_written : (l : List ℕ) (i x : ℕ) → i < length l → set l i x ≡ written l i (x ∷ [])
-unfolding written
-set_written l i x h =
-    set_split l i x h
-    ∙ ap (λ (k : ℕ). take i l ++ x ∷ drop k l) (sym (add-one i))
-    ∙ sym (append_assoc (take i l) (x ∷ []) (drop (i + 1) l))
 
 module _ (b : List ℕ) (start : ℕ) (s : List ℕ) where
   -- what stands up to the end of the bytes
@@ -71,14 +95,14 @@ module _ (b : List ℕ) (start : ℕ) (s : List ℕ) where
       ap₂ (λ (x y : List ℕ). x ++ t ++ y) (take_at front (drop m b) m long) (tail ∙ ap (λ (k : ℕ). drop k b) ends)
       ∙ ap (λ (x : List ℕ). x ++ drop (start + length (s ++ t)) b) (append_assoc (take start b) s t)
 
-  -- one byte behind what was written
-  pub written_one :
-      (x n : ℕ)
-      → length s ≡ n
-      → start + n < length b
-      → set (written b start s) (start + n) x ≡ written b start (s ++ x ∷ [])
-  written_one x n e room =
-      let kept : length (written b start s) ≡ length b = written_length (omega arith) in
-      set_written (written b start s) (start + n) x (omega arith)
-      ∙ ap (λ (k : ℕ). written (written b start s) (start + k) (x ∷ [])) (sym e)
-      ∙ written_next (x ∷ []) (omega arith)
+-- A target that is written from its start on, and that the bytes fill.
+
+module _ (bytes target : List ℕ) (same : length target ≡ length bytes) (k : ℕ) (front : take k target ≡ take k bytes) where
+  -- one byte more
+  pub front_more : {b : ℕ} → k < length target → b ≡ get_or bytes k 0 → take (k + 1) (set target k b) ≡ take (k + 1) bytes
+  front_more {b} h byte =
+      take_more_set target k b h ∙ ap₂ (λ (l : List ℕ) (x : ℕ). l ++ x ∷ []) front byte ∙ sym (take_more bytes k 0 (omega arith))
+
+  -- all of them
+  pub front_all : length target ≤ k → target ≡ bytes
+  front_all h = sym (take_all k target h) ∙ front ∙ take_all k bytes (omega arith)

@@ -6,37 +6,30 @@ use mathlib.Core.List.{List, [], ◌∷◌, ◌++◌, append_assoc, append-nil}
 use native.Mathlib.Omega.{arith}
 use native.Mathlib.Numerals.{add-one}
 use lib.ListN.{length, take, drop, get_or, set, length-append, length-drop, drop_of_length-le}
-use lib.Seq.{drop-cons, drop-drop, get_or-take, length-take-le}
+use lib.Seq.{drop-drop, get_or-drop}
 use lib.Dec.{ltb, leb, eqb}
 use borrow.Author.Tests.{lt-ltb, le-ltb, ltb-false, leb-true, le-leb, lt-leb, eqb-true, eq-eqb, ne_eqb}
 use Rattle.decimal.specs.declared.image.Sign.{Sign}
 use Rattle.decimal.specs.declared.image.Sign.TheVariants.{Unsigned, Plus, Minus}
 use Rattle.decimal.specs.declared.image.Image.{Image}
+use Rattle.std.specs.Prelude.{Result, Ok, Err, IfOk}
 use Rattle.decimal.specs.declared.refusal.Refusal.{Refusal}
-use Rattle.decimal.specs.Answer.{Answer, done, refused, ◌then◌, pick}
-use Rattle.decimal.specs.Digits.{precision}
-use Rattle.decimal.specs.Image.{hashes, read_image}
+use Rattle.decimal.specs.Answer.{Answer, done, refused, ◌then◌, pick, mapped, meaning}
+use Rattle.decimal.specs.Image.{read_image}
 use Rattle.decimal.proofs.BoolLaws.{and_true}
 use Rattle.decimal.proofs.ImageLaws.{read_done}
-use Rattle.decimal.proofs.AnswerLaws.{never_done, done_same, then_done}
+use Rattle.decimal.proofs.AnswerLaws.{never_done, done_same, then_done, mapped_back, mapped_done, mapped_refused}
 use Rattle.codec.specs.declared.contents.Contents.{Contents}
-use Rattle.decimal.specs.declared.refusal.CheckAnswer.TheVariants as checks
-use Rattle.codec.specs.Lists.{filled, max_columns, no_image}
-use Rattle.codec.proofs.ListLaws.{filled_set}
+use Rattle.codec.specs.Lists.{max_columns}
+use Rattle.codec.proofs.ListLaws.{behind_place}
 use Rattle.codec.specs.Columns.{sign_count, exponent_count, half_count, pad_count, column_size, body_size, Checked, AllChecked, none, more}
-use Rattle.codec.specs.Contents.{Table, read_column, Column, column_at, column_length, read_columns, columns_length, read_contents, read_alone, contents_of}
+use Rattle.codec.specs.Contents.{Table, read_column, column_length, read_columns, columns_length, read_contents, read_alone, contents_of}
 
 -- the image of each column is one of 1 to 13 # signs
-pub checked_at : {ims : List Image} → AllChecked ims → (i : ℕ) → i < length ims → Checked (get_or ims i no_image)
-checked_at none i h = absurd (omega arith)
-checked_at (more c cs) zero h = c
-checked_at (more c cs) (suc i) h = checked_at cs i (omega arith)
-
--- and so is each of the first images of an array
-pub checked_front :
-    (images : List Image) (count i : ℕ) → count ≤ length images → i < count → AllChecked (take count images) → Checked (get_or images i no_image)
-checked_front images count i long here all =
-    rw (sym (get_or-take count images i no_image here)) (checked_at all i (omega (arith, length-take-le count images long)))
+pub checked_at : {ims : List Image} → AllChecked ims → (i : ℕ) (d : Image) → i < length ims → Checked (get_or ims i d)
+checked_at none i d h = absurd (omega arith)
+checked_at (more c cs) zero d h = c
+checked_at (more c cs) (suc i) d h = checked_at cs i d (omega arith)
 
 -- a column that is read has such an image
 pub column_checked : (place : ℕ) (bytes : List ℕ) {im : Image} → read_column place bytes ≡ done im → Checked im
@@ -48,41 +41,22 @@ column_checked place (n ∷ bytes) {im} h = go (ltb (length bytes) n) h
     go true e = never_done e
     go false e = let r = read_done place (take n bytes) im e in record { nonempty = r.0.nonempty; fits = r.1 }
 
-module _ (column place : ℕ) (bytes : List ℕ) where
-  -- no column begins behind the last byte
-  pub column_none : length bytes ≤ place → column_at column place bytes ≡ refused 11 0
-  unfolding column_at read_column ◌then◌
-  column_none h = rw (drop_of_length-le bytes h)
+-- no column begins where there is no byte
+pub column_none : (column : ℕ) (bytes : List ℕ) → length bytes ≡ 0 → read_column column bytes ≡ refused 11 0
+unfolding read_column
+column_none column [] h = refl
+column_none column (n ∷ bytes) h = absurd (omega arith)
 
-  -- what the bytes behind a length byte are read as
-  column_front_lem :
-      place < length bytes
-      → column_at column place bytes
-      ≡ (read_column column (get_or bytes place 0 ∷ drop (place + 1) bytes) then λ im. done (record { image = im; next = place + suc (get_or bytes place 0) }))
-  unfolding column_at column_length
-  column_front_lem h =
-      let front : drop place bytes ≡ get_or bytes place 0 ∷ drop (place + 1) bytes = rw (add-one, drop-cons bytes place 0) in
-      rw front
-
-  -- the bytes may end inside a column
-  pub column_short : place < length bytes → length bytes - (place + 1) < get_or bytes place 0 → column_at column place bytes ≡ refused 11 0
-  unfolding read_column ◌then◌
-  column_short h l =
-      column_front_lem h
-      ∙ rw (lt-ltb (length (drop (place + 1) bytes)) (get_or bytes place 0) (rw (length-drop (place + 1) bytes) l))
+module _ (column n : ℕ) (bytes : List ℕ) where
+  -- bytes may end inside a column
+  pub column_short : length bytes < n → read_column column (n ∷ bytes) ≡ refused 11 0
+  unfolding read_column
+  column_short h = rw (lt-ltb (length bytes) n h)
 
   -- else its image is read
-  pub column_read :
-      place < length bytes
-      → get_or bytes place 0 ≤ length bytes - (place + 1)
-      → {a : Answer Image}
-      → a ≡ read_image column (take (get_or bytes place 0) (drop (place + 1) bytes))
-      → column_at column place bytes ≡ (a then λ im. done (record { image = im; next = place + 1 + get_or bytes place 0 }))
-  unfolding read_column ◌then◌
-  column_read h l {a} e =
-      column_front_lem h
-      ∙ rw (le-ltb (length (drop (place + 1) bytes)) (get_or bytes place 0) (rw (length-drop (place + 1) bytes) l), ← e)
-      (ap (λ (k : ℕ). a then λ im. done (record { image = im; next = k })) (omega arith))
+  pub column_read : n ≤ length bytes → read_column column (n ∷ bytes) ≡ read_image column (take n bytes)
+  unfolding read_column
+  column_read h = rw (le-ltb (length bytes) n h)
 
 -- columns that are read have such images, as many as there are columns
 pub columns_checked : (left place : ℕ) (bytes : List ℕ) {ims : List Image} → read_columns left place bytes ≡ done ims → AllChecked ims × (length ims ≡ left)
@@ -159,68 +133,28 @@ alone_checked bytes h = (alone_sound bytes h).all
 pub alone_count : (bytes : List ℕ) {table : Table} → read_alone bytes ≡ done table → (1 ≤ length table.images) × (length table.images ≤ max_columns)
 alone_count bytes h = let s = alone_sound bytes h in (s.low, s.high)
 
--- what the code's answer tells of a contents, where it has read one
+-- what the code has read, where it has read a contents
 pub record TableTold (a : Answer Table) (r : Contents) : Type 0 where
   pub table : Table
   pub reads : a ≡ done table
-  pub images : r.images.values ≡ filled max_columns no_image table.images
-  pub count : r.images.count ≡ length table.images
+  pub images : r.images.items ≡ table.images
   pub size : r.size ≡ table.size
   pub body : r.body ≡ body_size table.images
 
--- the code's answer tells the contents that was read
-pub told_read : (a : Answer Table) (r : Contents) → r ≡ contents_of a → r.answer ≡ checks.Fine → TableTold a r
-unfolding contents_of
-told_read (done t) r h e =
+pub told_read : (a : Answer Table) {r : Contents} → done r ≡ mapped contents_of a → TableTold a r
+told_read a h =
+    let t = mapped_back contents_of a h in
     record {
-      table = t;
-      reads = refl;
-      images = ap (λ (x : Contents). x.images.values) h;
-      count = ap (λ (x : Contents). x.images.count) h;
-      size = ap (λ (x : Contents). x.size) h;
-      body = ap (λ (x : Contents). x.body) h;
+      table = t.0;
+      reads = t.1;
+      images = ap (λ (x : Contents). x.images.items) t.2;
+      size = ap (λ (x : Contents). x.size) t.2;
+      body = ap (λ (x : Contents). x.body) t.2;
     }
-told_read (refused x y) r h e =
-    let wrong : checks.Fine ≡ (contents_of (refused x y)).answer = sym e ∙ ap (λ (k : Contents). k.answer) h in
-    let z : ◌≡◌ {A = ℕ} 0 1 = cc in
-    absurd (omega arith)
-
--- and the refusal
-pub told_refused : (a : Answer Table) (r : Contents) (refusal : Refusal) → r ≡ contents_of a → r.answer ≡ checks.Refused refusal → a ≡ refused refusal.number refusal.place
-unfolding contents_of
-told_refused (done t) r refusal h e =
-    let wrong : checks.Refused refusal ≡ (contents_of (done t)).answer = sym e ∙ ap (λ (k : Contents). k.answer) h in
-    let z : ◌≡◌ {A = ℕ} 0 1 = cc in
-    absurd (omega arith)
-told_refused (refused x y) r refusal h e =
-    let same : checks.Refused refusal ≡ checks.Refused (record { number = x; place = y }) = sym e ∙ ap (λ (k : Contents). k.answer) h in
-    let told : refusal ≡ record { number = x; place = y } = cc in
-    ap (λ (k : Refusal). refused k.number k.place) (sym told)
-
--- what the code has read, where it has read a contents
-pub record ReadOk (bytes : List ℕ) (r : Contents) : Type 0 where
-  pub table : Table
-  pub reads : read_alone bytes ≡ done table
-  pub images : r.images.values ≡ filled max_columns no_image table.images
-  pub count : r.images.count ≡ length table.images
-  pub body : r.body ≡ body_size table.images
-
-pub alone_read : (bytes : List ℕ) (r : Contents) → r ≡ contents_of (read_alone bytes) → r.answer ≡ checks.Fine → ReadOk bytes r
-alone_read bytes r h e =
-    let t = told_read (read_alone bytes) r h e in
-    record { table = t.table; reads = t.reads; images = t.images; count = t.count; body = t.body }
-
--- and where it was refused
-pub alone_refused :
-    (bytes : List ℕ) (r : Contents) (refusal : Refusal)
-    → r ≡ contents_of (read_alone bytes)
-    → r.answer ≡ checks.Refused refusal
-    → read_alone bytes ≡ refused refusal.number refusal.place
-alone_refused bytes r refusal h e = told_refused (read_alone bytes) r refusal h e
 
 module _ (bytes : List ℕ) where
   -- a contents that is refused is refused alone
-  alone_first : {number place : ℕ} → read_contents bytes ≡ refused number place → read_alone bytes ≡ refused number place
+  pub alone_first : {number place : ℕ} → read_contents bytes ≡ refused number place → read_alone bytes ≡ refused number place
   unfolding read_alone ◌then◌
   alone_first h = rw h
 
@@ -234,22 +168,16 @@ module _ (bytes : List ℕ) where
   unfolding read_alone ◌then◌
   alone_more {table} h l = rw (h, ne_eqb table.size (length bytes) l)
 
-  module _ (r : Contents) (h : r ≡ contents_of (read_contents bytes)) where
-    -- so the code's answer is the same alone where it is refused
-    pub alone_stops : (refusal : Refusal) → r.answer ≡ checks.Refused refusal → r ≡ contents_of (read_alone bytes)
-    alone_stops refusal e =
-        let q = told_refused (read_contents bytes) r refusal h e in
-        h ∙ ap contents_of (q ∙ sym (alone_first q))
-
-    -- and where it fills the bytes
-    pub alone_whole : r.answer ≡ checks.Fine → r.size ≡ length bytes → r ≡ contents_of (read_alone bytes)
-    alone_whole e l =
-        let t = told_read (read_contents bytes) r h e in
-        h ∙ ap contents_of (t.reads ∙ sym (alone_same t.reads (sym t.size ∙ l)))
+  module _ {r : Contents} (h : done r ≡ mapped contents_of (read_contents bytes)) where
+    -- so the code's contents is the one read alone where it fills the bytes
+    pub alone_whole : r.size ≡ length bytes → done r ≡ mapped contents_of (read_alone bytes)
+    alone_whole l =
+        let t = told_read (read_contents bytes) h in
+        h ∙ ap (mapped contents_of) (t.reads ∙ sym (alone_same t.reads (sym t.size ∙ l)))
 
     -- else it is refused
-    pub alone_long : r.answer ≡ checks.Fine → (r.size ≡ length bytes → ⊥) → read_alone bytes ≡ refused 11 0
-    alone_long e l = let t = told_read (read_contents bytes) r h e in alone_more t.reads (λ z. l (t.size ∙ z))
+    pub alone_long : (r.size ≡ length bytes → ⊥) → read_alone bytes ≡ refused 11 0
+    alone_long l = let t = told_read (read_contents bytes) h in alone_more t.reads (λ z. l (t.size ∙ z))
 
 -- a column's halves fill its bytes
 pub column_halves_lem : (im : Image) → column_size im + column_size im ≡ half_count im + pad_count im
@@ -266,10 +194,6 @@ sign_few Minus = omega arith
 pub exponent_few : (b : Bool) → exponent_count b ≤ 2
 exponent_few true = omega arith
 exponent_few false = omega arith
-
--- so a column has few halves
-pub halves_few : (im : Image) → hashes im ≤ precision → half_count im ≤ 3 + precision
-halves_few im h = omega (arith, sign_few im.sign, exponent_few im.exponential)
 
 -- a column has 1 to 9 bytes
 pub column_some : {im : Image} → Checked im → 0 < column_size im
@@ -295,44 +219,6 @@ column_inside column (n ∷ bytes) {im} h = go (ltb (length bytes) n) refl h
     go : (b : Bool) → ltb (length bytes) n ≡ b → pick b (refused 11 0) (read_image column (take n bytes)) ≡ done im → suc n ≤ suc (length bytes)
     go true t e = never_done e
     go false t e = let l = ltb-false (length bytes) n t in omega arith
-
--- what a column that is read at a place tells
-record ColumnTold (column place : ℕ) (bytes : List ℕ) (im : Image) (next : ℕ) : Type 0 where
-  read : read_column column (drop place bytes) ≡ done im
-  behind : next ≡ place + column_length (drop place bytes)
-  within : place ≤ length bytes → next ≤ length bytes
-
--- reading a column at a place tells it
-column_told : (column place : ℕ) (bytes : List ℕ) {im : Image} {next : ℕ} → column_at column place bytes ≡ done (record { image = im; next = next }) → ColumnTold column place bytes im next
-unfolding column_at
-column_told column place bytes {im} {next} h =
-    let l = drop place bytes in
-    let b = then_done (read_column column l) (λ (j : Image). done (record { image = j; next = place + column_length l })) h in
-    let told : ◌≡◌ {A = Answer Column} (done (record { image = b.value; next = place + column_length l })) (done (record { image = im; next = next })) = b.second in
-    let same : ◌≡◌ {A = Column} (record { image = b.value; next = place + column_length l }) (record { image = im; next = next }) = cc in
-    let image : b.value ≡ im = ap (λ (k : Column). k.image) same in
-    let place_behind : place + column_length l ≡ next = ap (λ (k : Column). k.next) same in
-    record {
-      read = b.first ∙ ap {B = Answer Image} done image;
-      behind = sym place_behind;
-      within = λ h. omega (arith, column_inside column l b.first, length-drop place bytes);
-    }
-
--- its image is such a one
-pub column_good : (column place : ℕ) (bytes : List ℕ) {im : Image} {next : ℕ} → column_at column place bytes ≡ done (record { image = im; next = next }) → Checked im
-column_good column place bytes h = column_checked column (drop place bytes) (column_told column place bytes h).read
-
--- and what one that is refused tells
-column_stopped : (column place : ℕ) (bytes : List ℕ) {number at_place : ℕ} → column_at column place bytes ≡ refused number at_place → read_column column (drop place bytes) ≡ refused number at_place
-unfolding column_at ◌then◌
-column_stopped column place bytes {number} {at_place} h = go (read_column column (drop place bytes)) h
-  where
-    made : Image → Answer Column
-    made im = done (record { image = im; next = place + column_length (drop place bytes) })
-
-    go : (a : Answer Image) → (a then made) ≡ refused number at_place → a ≡ refused number at_place
-    go (done im) e = let z : ◌≡◌ {A = ℕ} 0 1 = cc in absurd (omega arith)
-    go (refused x y) e = let same_number : x ≡ number = cc in let same_place : y ≡ at_place = cc in ap₂ refused same_number same_place
 
 -- images put in front of those that an answer has
 unfoldable pub in_front : List Image → Answer (List Image) → Answer (List Image)
@@ -365,162 +251,168 @@ columns_refused :
 unfolding read_columns in_front ◌then◌
 columns_refused left column bytes ims h = rw h
 
+-- so it does where the code's answer is no refusal
+pub column_fits : (r : Result Image Refusal) (column : ℕ) (bytes : List ℕ) → meaning r ≡ read_column column bytes → IfOk r (λ image. column_length bytes ≤ length bytes)
+column_fits (Ok im) column bytes h = column_inside column bytes (sym h)
+column_fits (Err e) column bytes h = tt
+
+-- how many bytes a column takes, by its length byte
+length_byte : (bytes : List ℕ) → 0 < length bytes → column_length bytes ≡ 1 + get_or bytes 0 0
+unfolding column_length
+length_byte [] h = absurd (omega arith)
+length_byte (n ∷ bytes) h = omega arith
+
+-- where a column is read there is a byte
+column_begins : (column : ℕ) (bytes : List ℕ) {im : Image} → read_column column bytes ≡ done im → 0 < length bytes
+unfolding read_column
+column_begins column [] h = never_done h
+column_begins column (n ∷ bytes) h = omega arith
+
+-- the bytes that the code lends are those behind the place
+pub column_lent :
+    (place column : ℕ) (bytes : List ℕ) {a : Answer Image} → a ≡ read_column column (take (length bytes - place) (drop place bytes)) → read_column column (drop place bytes) ≡ a
+column_lent place column bytes e = sym (e ∙ ap (read_column column) (behind_place place bytes))
+
+module _ (place column : ℕ) (bytes : List ℕ) {im : Image} (read : read_column column (drop place bytes) ≡ done im) where
+  -- so there is at its place
+  pub byte_here : place < length bytes
+  byte_here = omega (arith, column_begins column (drop place bytes) read, length-drop place bytes)
+
+  -- which says where the next column stands
+  pub column_behind : place + (1 + get_or bytes place 0) ≡ place + column_length (drop place bytes)
+  column_behind =
+      let byte : get_or (drop place bytes) 0 0 ≡ get_or bytes place 0 = get_or-drop place bytes 0 0 ∙ ap (λ (i : ℕ). get_or bytes i 0) (omega arith) in
+      ap (λ (n : ℕ). place + (1 + n)) (sym byte)
+      ∙ ap (λ (n : ℕ). place + n) (sym (length_byte (drop place bytes) (column_begins column (drop place bytes) read)))
+
+  -- the next one's is inside the bytes
+  pub behind_inside : place + (1 + get_or bytes place 0) ≤ length bytes
+  behind_inside = omega (arith, byte_here, column_behind, column_inside column (drop place bytes) read, length-drop place bytes)
+
 -- The loop that reads the columns: the images read, with those that the rest gives behind them, are those of the whole.
-pub record Reading (bytes : List ℕ) (count : ℕ) (images : List Image) (place body column : ℕ) : Type 0 where
-  pub ims : List Image
-  pub stored : images ≡ filled max_columns no_image ims
+pub record Reading (bytes : List ℕ) (count : ℕ) (ims : List Image) (place body column : ℕ) : Type 0 where
   pub as_many : length ims ≡ column
   pub size : body ≡ body_size ims
   pub few : body ≤ 9 * column
-  pub inside : column ≤ count
   pub within : place ≤ length bytes
-  pub left : in_front ims (read_columns (count - column) column (drop place bytes)) ≡ read_columns count 0 (drop 1 bytes)
-  pub lengths : place + columns_length (count - column) (drop place bytes) ≡ 1 + columns_length count (drop 1 bytes)
+  pub left : in_front ims (read_columns (count - column) column (drop place bytes)) ≡ read_columns count 0 bytes
+  pub lengths : place + columns_length (count - column) (drop place bytes) ≡ columns_length count bytes
 
 -- before the first column
-pub reading_starts : (bytes : List ℕ) (count : ℕ) → 0 < length bytes → Reading bytes count (filled max_columns no_image []) 1 0 0
+pub reading_starts : (bytes : List ℕ) (count : ℕ) → Reading bytes count [] 0 0 0
 unfolding body_size
-reading_starts bytes count h =
+reading_starts bytes count =
     let all : count - 0 ≡ count = omega arith in
     record {
-      ims = [];
-      stored = refl;
       as_many = refl;
       size = refl;
       few = omega arith;
-      inside = omega arith;
       within = omega arith;
-      left = front_none _ ∙ ap (λ (k : ℕ). read_columns k 0 (drop 1 bytes)) all;
-      lengths = ap (λ (k : ℕ). 1 + columns_length k (drop 1 bytes)) all;
+      left = front_none _ ∙ ap (λ (k : ℕ). read_columns k 0 bytes) all;
+      lengths = omega (arith, ap (λ (k : ℕ). columns_length k bytes) all);
     }
 
-module _ {bytes : List ℕ} {count : ℕ} {images : List Image} {place body column : ℕ} (r : Reading bytes count images place body column) where
+module _ {bytes : List ℕ} {count : ℕ} {ims : List Image} {place body column : ℕ} (r : Reading bytes count ims place body column) where
   -- one column further
   pub reading_turns :
-      {im : Image} {next size : ℕ}
+      {im : Image} {images : List Image} {next size : ℕ}
       → column < count
-      → count ≤ max_columns
-      → column_at column place bytes ≡ done (record { image = im; next = next })
+      → read_column column (drop place bytes) ≡ done im
+      → images ≡ ims ++ im ∷ []
+      → next ≡ place + column_length (drop place bytes)
       → size ≡ column_size im
-      → Reading bytes count (set images column im) next (body + size) (column + 1)
+      → Reading bytes count images next (body + size) (column + 1)
   unfolding columns_length
-  reading_turns {im} {next} {size} h m e z =
-      let told = column_told column place bytes e in
+  reading_turns {im} {images} {next} {size} h e pushed behind z =
       let l = drop place bytes in
       let left-now : count - column ≡ suc (count - (column + 1)) = omega arith in
       let left-then = count - (column + 1) in
-      let rest : drop (column_length l) l ≡ drop next bytes = drop-drop (column_length l) place bytes ∙ ap (λ (k : ℕ). drop k bytes) (sym told.behind) in
+      let rest : drop (column_length l) l ≡ drop next bytes = drop-drop (column_length l) place bytes ∙ ap (λ (k : ℕ). drop k bytes) (sym behind) in
       let step : columns_length (count - column) l ≡ column_length l + columns_length left-then (drop next bytes) =
       ap (λ (k : ℕ). columns_length k l) left-now ∙ ap (λ (k : List ℕ). column_length l + columns_length left-then k) rest in
-      let some = column_few (column_checked column l told.read) in
-      record {
-        ims = r.ims ++ im ∷ [];
-        stored =
-            ap (λ (a : List Image). set a column im) r.stored
-            ∙ ap (λ (k : ℕ). set (filled max_columns no_image r.ims) k im) (sym r.as_many)
-            ∙ filled_set no_image max_columns r.ims im (omega (arith, r.as_many));
-        as_many = length-append r.ims (im ∷ []) ∙ ap (λ (k : ℕ). k + 1) r.as_many;
-        size = omega (arith, r.size, body_more r.ims im);
+      let some = column_few (column_checked column l e) in
+      rw pushed
+      (record {
+        as_many = length-append ims (im ∷ []) ∙ ap (λ (k : ℕ). k + 1) r.as_many;
+        size = omega (arith, r.size, body_more ims im);
         few = omega (arith, r.few);
-        inside = omega arith;
-        within = told.within r.within;
+        within = omega (arith, column_inside column l e, length-drop place bytes, r.within);
         left =
-            ap (λ (k : ℕ). in_front (r.ims ++ im ∷ []) (read_columns left-then k (drop next bytes))) (add-one column)
-            ∙ ap (λ (k : List ℕ). in_front (r.ims ++ im ∷ []) (read_columns left-then (suc column) k)) (sym rest)
-            ∙ sym (columns_turn left-then column l r.ims told.read)
-            ∙ ap (λ (k : ℕ). in_front r.ims (read_columns k column l)) (sym left-now)
+            ap (λ (k : ℕ). in_front (ims ++ im ∷ []) (read_columns left-then k (drop next bytes))) (add-one column)
+            ∙ ap (λ (k : List ℕ). in_front (ims ++ im ∷ []) (read_columns left-then (suc column) k)) (sym rest)
+            ∙ sym (columns_turn left-then column l ims e)
+            ∙ ap (λ (k : ℕ). in_front ims (read_columns k column l)) (sym left-now)
             ∙ r.left;
-        lengths = omega (arith, told.behind, r.lengths);
-      }
+        lengths = omega (arith, behind, r.lengths);
+      })
 
   -- a column is refused
   pub reading_refused :
       {number at_place : ℕ}
       → column < count
-      → column_at column place bytes ≡ refused number at_place
-      → read_columns count 0 (drop 1 bytes) ≡ refused number at_place
+      → read_column column (drop place bytes) ≡ refused number at_place
+      → read_columns count 0 bytes ≡ refused number at_place
   reading_refused h e =
       let l = drop place bytes in
       let left-now : count - column ≡ suc (count - (column + 1)) = omega arith in
       sym r.left
-      ∙ ap (λ (k : ℕ). in_front r.ims (read_columns k column l)) left-now
-      ∙ columns_refused (count - (column + 1)) column l r.ims (column_stopped column place bytes e)
+      ∙ ap (λ (k : ℕ). in_front ims (read_columns k column l)) left-now
+      ∙ columns_refused (count - (column + 1)) column l ims e
 
   -- behind the last column
-  pub reading_ends : count ≤ column → read_columns count 0 (drop 1 bytes) ≡ done r.ims
+  pub reading_ends : count ≤ column → read_columns count 0 bytes ≡ done ims
   unfolding read_columns in_front
   reading_ends h =
       let none_left : count - column ≡ 0 = omega arith in
       sym r.left
-      ∙ ap (λ (k : ℕ). in_front r.ims (read_columns k column (drop place bytes))) none_left
-      ∙ ap {B = Answer (List Image)} done (append-nil r.ims)
+      ∙ ap (λ (k : ℕ). in_front ims (read_columns k column (drop place bytes))) none_left
+      ∙ ap {B = Answer (List Image)} done (append-nil ims)
 
   -- and the place is the length of the contents
-  pub reading_length : count ≤ column → place ≡ suc (columns_length count (drop 1 bytes))
+  pub reading_length : count ≤ column → place ≡ columns_length count bytes
   unfolding columns_length
   reading_length h =
       let none_left : count - column ≡ 0 = omega arith in
       let none-long : columns_length (count - column) (drop place bytes) ≡ 0 = ap (λ (k : ℕ). columns_length k (drop place bytes)) none_left in
       omega (arith, r.lengths)
 
--- with no byte there is no contents
+-- no byte is no contents
 pub contents_none : (bytes : List ℕ) → length bytes ≡ 0 → read_contents bytes ≡ refused 11 0
 unfolding read_contents
 contents_none [] h = refl
 contents_none (b ∷ bytes) h = absurd (omega arith)
 
--- no column
-pub contents_zero : (bytes : List ℕ) → 0 < length bytes → get_or bytes 0 0 < 1 → read_contents bytes ≡ refused 10 0
-unfolding read_contents
-contents_zero [] h l = absurd (omega arith)
-contents_zero (b ∷ bytes) h l = rw (lt-leb 1 b l)
+module _ (count : ℕ) (bytes : List ℕ) where
+  -- no column
+  pub contents_zero : count < 1 → read_contents (count ∷ bytes) ≡ refused 10 0
+  unfolding read_contents
+  contents_zero l = rw (lt-leb 1 count l)
 
--- too many columns
-pub contents_many : (bytes : List ℕ) → 0 < length bytes → max_columns < get_or bytes 0 0 → read_contents bytes ≡ refused 10 0
-unfolding read_contents
-contents_many [] h l = absurd (omega arith)
-contents_many (b ∷ bytes) h l =
-    let low : 1 ≤ b = omega arith in
-    rw (le-leb 1 b low, lt-leb b max_columns l)
+  -- too many columns
+  pub contents_many : max_columns < count → read_contents (count ∷ bytes) ≡ refused 10 0
+  unfolding read_contents
+  contents_many l = let low : 1 ≤ count = omega arith in rw (le-leb 1 count low, lt-leb count max_columns l)
 
--- else the columns decide
-pub contents_read :
-    (bytes : List ℕ) {ims : List Image}
-    → 0 < length bytes
-    → 1 ≤ get_or bytes 0 0
-    → get_or bytes 0 0 ≤ max_columns
-    → read_columns (get_or bytes 0 0) 0 (drop 1 bytes) ≡ done ims
-    → read_contents bytes ≡ done (record { images = ims; size = suc (columns_length (get_or bytes 0 0) (drop 1 bytes)) })
-unfolding read_contents ◌then◌
-contents_read [] some low high h = absurd (omega arith)
-contents_read (b ∷ bytes) some low high h = rw (le-leb 1 b low, le-leb b max_columns high, h)
+  module _ (low : 1 ≤ count) (high : count ≤ max_columns) where
+    -- else the columns decide
+    contents_read :
+        {ims : List Image} → read_columns count 0 bytes ≡ done ims → read_contents (count ∷ bytes) ≡ done (record { images = ims; size = suc (columns_length count bytes) })
+    unfolding read_contents ◌then◌
+    contents_read h = rw (le-leb 1 count low, le-leb count max_columns high, h)
 
--- with their refusal too
-pub contents_stopped :
-    (bytes : List ℕ) {number place : ℕ}
-    → 0 < length bytes
-    → 1 ≤ get_or bytes 0 0
-    → get_or bytes 0 0 ≤ max_columns
-    → read_columns (get_or bytes 0 0) 0 (drop 1 bytes) ≡ refused number place
-    → read_contents bytes ≡ refused number place
-unfolding read_contents ◌then◌
-contents_stopped [] some low high h = absurd (omega arith)
-contents_stopped (b ∷ bytes) some low high h = rw (le-leb 1 b low, le-leb b max_columns high, h)
+    -- with their refusal too
+    pub contents_stopped : {number place : ℕ} → read_columns count 0 bytes ≡ refused number place → read_contents (count ∷ bytes) ≡ refused number place
+    unfolding read_contents ◌then◌
+    contents_stopped h = rw (le-leb 1 count low, le-leb count max_columns high, h)
 
--- what the loop has read is the contents
-pub contents_made :
-    (bytes : List ℕ) {images : List Image} {place body column : ℕ}
-    → 0 < length bytes
-    → 1 ≤ get_or bytes 0 0
-    → get_or bytes 0 0 ≤ max_columns
-    → Reading bytes (get_or bytes 0 0) images place body column
-    → get_or bytes 0 0 ≤ column
-    → ◌≡◌ {A = Contents} (record { answer = checks.Fine; images = record { values = images; count = get_or bytes 0 0 }; size = place; body = body }) (contents_of (read_contents bytes))
-unfolding contents_of
-contents_made bytes {images} {place} {body} {column} some low high r h =
-    let all = get_or bytes 0 0 in
-    let columns : all ≡ length r.ims = omega (arith, r.as_many, r.inside) in
-    let table : Table = record { images = r.ims; size = suc (columns_length all (drop 1 bytes)) } in
-    let made : ◌≡◌ {A = Contents} (record { answer = checks.Fine; images = record { values = images; count = all }; size = place; body = body }) (contents_of (done table)) =
-    λ i. record { answer = checks.Fine; images = record { values = r.stored i; count = columns i }; size = reading_length r h i; body = r.size i } in
-    made ∙ sym (ap contents_of (contents_read bytes some low high (reading_ends r h)))
+    -- what the loop has read is the contents
+    pub contents_made :
+        {ims : List Image} {place body column : ℕ}
+        → Reading bytes count ims place body column
+        → count ≤ column
+        → ◌≡◌ {A = Answer Contents} (done (record { images = record { items = ims }; size = 1 + place; body = body })) (mapped contents_of (read_contents (count ∷ bytes)))
+    contents_made {ims} {place} {body} {column} r h =
+        let size : 1 + place ≡ suc (columns_length count bytes) = omega (arith, reading_length r h) in
+        let made : ◌≡◌ {A = Contents} (record { images = record { items = ims }; size = 1 + place; body = body }) (contents_of (record { images = ims; size = suc (columns_length count bytes) })) =
+        λ i. record { images = record { items = ims }; size = size i; body = r.size i } in
+        ap {B = Answer Contents} done made ∙ sym (mapped_done contents_of (contents_read (reading_ends r h)))

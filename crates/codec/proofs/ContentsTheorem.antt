@@ -400,7 +400,7 @@ alone_many {bytes} {ims} {i} is first =
     ∙ entries_many is.each first 0 []
     ∙ ap (λ (n : ℕ). refused 2 n) (omega arith) in
     then_refused _
-    (ap read_contents is.rendered ∙ contents_stopped (length ims ∷ entries_bytes ims) (omega arith) is.low is.high columns)
+    (ap read_contents is.rendered ∙ contents_stopped (length ims) (entries_bytes ims) is.low is.high columns)
 
 -- The bytes of a column.
 

@@ -11,8 +11,8 @@ use Rattle.decimal.specs.declared.number.Number.{Number}
 use Rattle.decimal.specs.Answer.{Answer, done, refused}
 use Rattle.decimal.proofs.BoolLaws.{zero_or_not}
 use Rattle.decimal.proofs.DigitLaws.{le_or_lt}
-use Rattle.codec.specs.declared.walking.WalkAnswer.{WalkAnswer}
-use Rattle.codec.specs.declared.walking.WalkAnswer.TheVariants as gives
+use Rattle.codec.specs.declared.walking.Stop.{Stop}
+use Rattle.codec.specs.declared.walking.Stop.TheVariants as gives
 use Rattle.codec.specs.Lists.{max_columns}
 use Rattle.codec.specs.Text.{LongestForm, reading_in, legal_length}
 use Rattle.codec.specs.Walking.{Walk, stop_before, stopped, numbers_in, walking, walk_meaning, Foremost, Cut}
@@ -48,19 +48,19 @@ module _ (text : List ℕ) where
   CutBy index place w = Cut text index place w.numbers w.place (walk_meaning w.answer)
 
   -- where reading stops, the cut does
-  stop_cut : (index place : ℕ) (answer : WalkAnswer) → Cut text index place [] place (walk_meaning answer) → CutBy index place (stopped answer place)
+  stop_cut : (index place : ℕ) (answer : Answer Stop) → Cut text index place [] place (walk_meaning answer) → CutBy index place (stopped answer place)
   unfolding stopped
   stop_cut index place answer h = h
 
   -- no text number begins there
-  none_cut : (index place : ℕ) → legal_length (drop place text) ≡ 0 → CutBy index place (stopped (stop_before (drop place text)) place)
+  none_cut : (index place : ℕ) → legal_length (drop place text) ≡ 0 → CutBy index place (stopped (done (stop_before (drop place text))) place)
   none_cut index place none =
       ⊎_elim
       (λ (end : length text ≤ place).
-      subst (λ (a : WalkAnswer). CutBy index place (stopped a place)) (stop_end text place end) (stop_cut index place gives.End (Cut.ends end)))
+      subst (λ (a : Stop). CutBy index place (stopped (done a) place)) (stop_end text place end) (stop_cut index place (done gives.End) (Cut.ends end)))
       (λ (inside : place < length text).
-      subst (λ (a : WalkAnswer). CutBy index place (stopped a place)) (stop_none text place inside none)
-      (stop_cut index place gives.NoNumber
+      subst (λ (a : Stop). CutBy index place (stopped (done a) place)) (stop_none text place inside none)
+      (stop_cut index place (done gives.NoNumber)
       (Cut.none inside (subst (λ (n : ℕ). LongestForm (drop place text) n) none (longest (drop place text))))))
       (le_or_lt (length text) place)
 
@@ -69,10 +69,10 @@ module _ (text : List ℕ) where
   some_inside place some = omega (arith, (longest (drop place text)).inside, length-drop place text)
 
   -- one more begins there, and there is no room
-  full_cut : (index place : ℕ) → max_columns ≤ index → (legal_length (drop place text) ≡ 0 → ⊥) → CutBy index place (stopped (stop_before (drop place text)) place)
+  full_cut : (index place : ℕ) → max_columns ≤ index → (legal_length (drop place text) ≡ 0 → ⊥) → CutBy index place (stopped (done (stop_before (drop place text))) place)
   full_cut index place full some =
-      subst (λ (a : WalkAnswer). CutBy index place (stopped a place)) (stop_many text place (some_inside place some) some)
-      (stop_cut index place gives.TooMany (Cut.full full (foremost (drop place text) some refl)))
+      subst (λ (a : Stop). CutBy index place (stopped (done a) place)) (stop_many text place (some_inside place some) some)
+      (stop_cut index place (done gives.TooMany) (Cut.full full (foremost (drop place text) some refl)))
 
   -- a number before the others
   behind_cut : {index place size : ℕ} {n : Number} (w : Walk) → index < max_columns → Foremost (drop place text) size (done n) → CutBy (suc index) (place + size) w → CutBy index place (behind (n ∷ []) w)
@@ -100,7 +100,7 @@ module _ (text : List ℕ) where
           (subst (λ (l : List ℕ). CutBy (suc index) next (numbers_in left (suc index) next l)) rest (others next)))
       go (refused number other) e =
           subst (λ (w : Walk). CutBy index place w) (sym (numbers_refused index place bytes left some e))
-          (stop_cut index place (gives.Refused (record { number = number; place = index })) (Cut.stops room (foremost bytes some e)))
+          (stop_cut index place (refused number index) (Cut.stops room (foremost bytes some e)))
 
   -- each walk is a cut
   numbers_cut : (left index place : ℕ) → left + index ≡ max_columns → CutBy index place (numbers_in left index place (drop place text))
@@ -126,7 +126,7 @@ pub record Gives (w : Walk) (ns : List Number) (stop : ℕ) (answer : Answer (Un
   pub meaning : walk_meaning w.answer ≡ answer
 
 -- one that stops
-stopped_gives : {w : Walk} (answer : WalkAnswer) (place : ℕ) → w ≡ stopped answer place → Gives w [] place (walk_meaning answer)
+stopped_gives : {w : Walk} (answer : Answer Stop) (place : ℕ) → w ≡ stopped answer place → Gives w [] place (walk_meaning answer)
 unfolding stopped
 stopped_gives answer place e =
     record {
@@ -155,20 +155,20 @@ module _ (text : List ℕ) where
       → Gives (numbers_in left index place (drop place text)) ns stop answer
   cut_numbers (Cut.ends {index} {place} end) left room =
       let none = ap legal_length (drop_of_length-le text end) ∙ empty_length in
-      stopped_gives gives.End place (numbers_stop index place (drop place text) left none ∙ ap (λ (a : WalkAnswer). stopped a place) (sym (stop_end text place end)))
+      stopped_gives (done gives.End) place (numbers_stop index place (drop place text) left none ∙ ap (λ (a : Stop). stopped (done a) place) (sym (stop_end text place end)))
   cut_numbers (Cut.none {index} {place} inside zero-long) left room =
       let none = longest_unique (longest (drop place text)) zero-long in
-      stopped_gives gives.NoNumber place (numbers_stop index place (drop place text) left none ∙ ap (λ (a : WalkAnswer). stopped a place) (sym (stop_none text place inside none)))
+      stopped_gives (done gives.NoNumber) place (numbers_stop index place (drop place text) left none ∙ ap (λ (a : Stop). stopped (done a) place) (sym (stop_none text place inside none)))
   cut_numbers (Cut.full {index} {place} full f) left room =
       let some = foremost_some f in
       let no_room : left ≡ 0 = omega arith in
-      stopped_gives gives.TooMany place
+      stopped_gives (done gives.TooMany) place
       (ap (λ (n : ℕ). numbers_in n index place (drop place text)) no_room
       ∙ numbers_full index place (drop place text)
-      ∙ ap (λ (a : WalkAnswer). stopped a place) (sym (stop_many text place (some_inside text place some) some)))
+      ∙ ap (λ (a : Stop). stopped (done a) place) (sym (stop_many text place (some_inside text place some) some)))
   cut_numbers (Cut.stops {index} {place} {number = number} more f) left room =
       let one_left : left ≡ suc (left - 1) = omega arith in
-      stopped_gives (gives.Refused (record { number = number; place = index })) place
+      stopped_gives (refused number index) place
       (ap (λ (n : ℕ). numbers_in n index place (drop place text)) one_left
       ∙ numbers_refused index place (drop place text) (left - 1) (foremost_some f) (foremost_number f))
   cut_numbers (Cut.more {index} {place} {size} {n = n} more f others) left room =

@@ -8,7 +8,10 @@ use native.Mathlib.Nat.{lt_of_lt_of_le, div-lt_iff_lt-mul}
 use Rattle.decimal.specs.declared.image.Image.{Image}
 use Rattle.decimal.specs.declared.number.Number.{Number}
 use Rattle.decimal.specs.declared.truncation.Truncation.{Truncation}
-use Rattle.decimal.specs.Answer.{done}
+use Rattle.decimal.specs.Answer.{done, mapped, meaning}
+use Rattle.decimal.proofs.AnswerLaws.{done_same, done_ok, mapped_done}
+use Rattle.std.specs.Prelude.{Result, IsOk}
+use Rattle.decimal.specs.declared.refusal.Refusal.{Refusal}
 use Rattle.decimal.specs.Digits.{precision, digits_of, value_of, packed_of, halves_in}
 use Rattle.decimal.specs.Number.{exponent_limit}
 use Rattle.decimal.specs.Image.{hashes}
@@ -57,10 +60,14 @@ module _ (im : Image) (n : Number) (fit : Fit im n) where
   value_held =
       ap value_of (halves_of_digits precision (truncated_to im n).whole) ∙ value_of_digits precision (truncated_to im n).whole whole_small
 
-  module _ (r : Truncation) (made : r ≡ truncation_of (truncation 0 im n)) where
+  -- so the code's answer is a truncation
+  pub truncation_ok : (r : Result Truncation Refusal) → meaning r ≡ mapped truncation_of (truncation 0 im n) → IsOk r
+  truncation_ok r h = done_ok r (h ∙ mapped_done truncation_of (fit_truncation 0 im n fit))
+
+  module _ {r : Truncation} (made : done r ≡ mapped truncation_of (truncation 0 im n)) where
     -- the code's truncation of a number that fits
-    truncated_made : r ≡ truncation_of (done (truncated_to im n))
-    truncated_made = made ∙ ap truncation_of (fit_truncation 0 im n fit)
+    truncated_made : r ≡ truncation_of (truncated_to im n)
+    truncated_made = done_same (made ∙ mapped_done truncation_of (fit_truncation 0 im n fit))
 
     -- a column can be made of it
     pub truncation_held : Held im r

@@ -76,7 +76,7 @@ ends_blanks n r h = record { stops = stops_blanks n r; no_power = power_blanks n
 
 -- blanks at the end
 pub ends_last : (n : ℕ) → Ends n []
-unfolding times blanks_in
+unfolding times
 ends_last zero = record { stops = stops_end; no_power = power_empty; no_blank = refl }
 ends_last (suc n) = ends_blanks n [] refl
 

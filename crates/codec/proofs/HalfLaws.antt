@@ -109,7 +109,7 @@ sign_halves_below Plus t = (sign_half_below t, tt)
 sign_halves_below Minus t = (sign_half_below t, tt)
 
 -- the exponent part is halves
-exponent_halves_below : (b : Bool) (t : Truncated) → Halves (exponent_halves b t)
+pub exponent_halves_below : (b : Bool) (t : Truncated) → Halves (exponent_halves b t)
 unfolding exponent_halves Halves
 exponent_halves_below true t = digit_halves 2 (exponent_size t)
 exponent_halves_below false t = tt
@@ -170,10 +170,6 @@ exponent_size_few x h = go (ltb x exponent_limit)
     go : (b : Bool) → pick b (exponent_limit - x) (x - exponent_limit) ≤ exponent_limit
     go true = omega arith
     go false = omega arith
-
-pub exponent_small : (t : Truncated) → t.x ≤ 2 * exponent_limit → exponent_size t ≤ exponent_limit
-unfolding exponent_size
-exponent_small t = exponent_size_few t.x
 
 -- Order.
 

@@ -8,7 +8,6 @@ pub mod UnderLaws
 pub mod HalfLaws
 pub mod FitLaws
 pub mod RunLaws
-pub mod ColumnLaws
 pub mod PackLaws
 pub mod BodyLaws
 pub mod RoomTheorem

@@ -1,10 +1,10 @@
 -- Laws of lists that arrays hold. Assumes nothing.
 use Prim.Native.Nat.{ℕ, zero, suc, ◌+◌, ◌-◌, ◌<◌, ◌≤◌}
-use mathlib.Core.Path.{◌≡◌, refl, ap, ◌∙◌}
+use mathlib.Core.Path.{◌≡◌, refl, ap, sym, ◌∙◌}
 use mathlib.Core.List.{List, [], ◌∷◌, ◌++◌}
 use native.Mathlib.Omega.{arith}
-use lib.Seq.{get_or-append-add, get_or-take, drop-cons, length-take-le}
-use lib.ListN.{get_or-append, length, take, drop, get_or, set}
+use lib.Seq.{take-length, get_or-append-add, get_or-take, drop-cons, length-take-le}
+use lib.ListN.{get_or-append, length-drop, length, take, drop, get_or, set}
 use Rattle.codec.specs.Lists.{filled}
 
 -- a default plays no part inside a list
@@ -12,6 +12,10 @@ pub default_free : {A : Type 0} (xs : List A) (i : ℕ) (d e : A) → i < length
 default_free [] i d e h = absurd (omega arith)
 default_free (x ∷ xs) zero d e h = refl
 default_free (x ∷ xs) (suc i) d e h = default_free xs i d e (omega arith)
+
+-- what a slice has behind a place
+pub behind_place : {A : Type 0} (k : ℕ) (xs : List A) → take (length xs - k) (drop k xs) ≡ drop k xs
+behind_place k xs = ap (λ (n : ℕ). take n (drop k xs)) (sym (length-drop k xs)) ∙ take-length (drop k xs)
 
 module _ {A : Type 0} (d : A) where
   -- an array has its length

@@ -48,7 +48,7 @@ other_byte b h = rw (lt-leb zero_byte b h)
 
 -- blanks go on behind blanks
 pub blanks_go : (n : ℕ) (r : List ℕ) → blanks_in (times n blank_byte ++ r) ≡ n + blanks_in r
-unfolding blanks_in times
+unfolding times
 blanks_go zero r = omega arith
 blanks_go (suc n) r = let e = blanks_go n r in omega arith
 
@@ -109,7 +109,7 @@ pub record Starts (r : List ℕ) : Type 0 where
 
 -- a digit
 starts_digit : (d : ℕ) (r : List ℕ) → Starts ((zero_byte + d) ∷ r)
-unfolding sign_in blanks_in
+unfolding sign_in
 starts_digit d r =
     record {
       no_sign = rw (ne_eqb (zero_byte + d) plus_byte (λ e. omega arith), ne_eqb (zero_byte + d) minus_byte (λ e. omega arith));
@@ -124,7 +124,7 @@ starts_digits (d ∷ ds) r h = starts_digit d _
 
 -- a point
 pub starts_point : (ds r : List ℕ) → Starts (point_bytes (point ds) ++ r)
-unfolding point_bytes sign_in blanks_in
+unfolding point_bytes sign_in
 starts_point ds r = record { no_sign = refl; no_blank = refl }
 
 -- the digits and the point of a text that has some digit
@@ -143,7 +143,7 @@ sign_go Minus r h = refl
 
 -- and is no blank
 pub sign_no_blank : (sign : Sign) (r : List ℕ) → Starts r → blanks_in (sign_bytes sign ++ r) ≡ 0
-unfolding blanks_in sign_bytes
+unfolding sign_bytes
 sign_no_blank Unsigned r h = h.no_blank
 sign_no_blank Plus r h = refl
 sign_no_blank Minus r h = refl
@@ -223,7 +223,7 @@ front_blank b bs n h false e = refl
 
 -- blanks
 pub blanks_read : (bs : List ℕ) → times (blanks_in bs) blank_byte ++ drop (blanks_in bs) bs ≡ bs
-unfolding blanks_in times
+unfolding times
 blanks_read [] = refl
 blanks_read (b ∷ bs) = front_blank b bs (blanks_in bs) (blanks_read bs) (eqb b blank_byte) refl
 

@@ -3,13 +3,12 @@
 use Prim.Native.Nat.{ℕ, suc, ◌<◌}
 use mathlib.Core.Path.{◌≡◌, refl, ap, ap₂, sym, subst, ◌∙◌}
 use mathlib.Core.List.{List, [], ◌∷◌}
-use lib.ListN.{get_or}
 use Rattle.decimal.specs.declared.image.Image.{Image}
 use Rattle.decimal.specs.declared.number.Number.{Number}
 use Rattle.decimal.specs.declared.remainder.Remainder.{Remainder}
-use Rattle.decimal.specs.Answer.{Answer, done, refused, given}
+use Rattle.decimal.specs.Answer.{Answer, done, refused}
 use Rattle.decimal.specs.Truncation.{Truncated, truncated_to}
-use Rattle.decimal.specs.Remainder.{zero_remainder, IsRemainder}
+use Rattle.decimal.specs.Remainder.{IsRemainder}
 use Rattle.decimal.proofs.AnswerLaws.{never, one_answer, refused_first}
 use Rattle.decimal.proofs.RemainderLaws.{remainder_fit}
 use Rattle.decimal.proofs.RemainderTheorem.{left_once, fit_left, remainder_exactly}
@@ -17,14 +16,12 @@ use Rattle.codec.specs.Contents.{IsContents, Table, read_alone}
 use Rattle.codec.specs.Order.{Truncations}
 use Rattle.codec.specs.Packing.{packing, AllPack}
 use Rattle.codec.specs.Unpacking.{unpacking}
-use Rattle.codec.specs.Lists.{max_columns}
-use Rattle.codec.specs.Remainders.{packing_remainders, remainders_of, RemainderEach, SumEach, RemaindersExactly}
-use Rattle.codec.proofs.ListLaws.{filled_at}
+use Rattle.codec.specs.Remainders.{packing_remainders, RemainderEach, SumEach, RemaindersExactly}
 use Rattle.codec.proofs.ContentsTheorem.{alone_exactly, contents_unique}
 use Rattle.codec.proofs.PackLaws.{packed_anywhere, packs_under, packs_fit}
 use Rattle.codec.proofs.RoomTheorem.{packing_body}
 use Rattle.codec.proofs.ReadBackTheorem.{contents_packs, contents_read_back}
-use Rattle.codec.proofs.RemainderLaws.{left_of, left_refused, refused_none, body_packs, body_left}
+use Rattle.codec.proofs.RemainderLaws.{left_of, left_refused, body_packs, body_left}
 
 -- Column by column.
 
@@ -50,11 +47,6 @@ unfolding left_of
 packs_sum AllPack.none Truncations.none = SumEach.none
 packs_sum (AllPack.one {im} {n} p ps) (Truncations.one cut others) =
     SumEach.one ((remainder_exactly 0 im n).number_sum (cut 0) (remainder_fit im n (packs_fit p) 0)) (packs_sum ps others)
-
--- Published: what stands in the code's list, place by place: the remainders, and behind them that of zero.
-pub list_places : (rs : List Remainder) (i : ℕ) (d : Remainder) → i < max_columns → get_or (remainders_of rs).values i d ≡ get_or rs i zero_remainder
-unfolding remainders_of
-list_places rs i d h = filled_at zero_remainder max_columns rs i d h
 
 -- The packing call.
 
@@ -100,15 +92,6 @@ module _ (contents : List ℕ) (ns : List Number) (room : ℕ) where
   unfolding packing_remainders
   refused_as number place h =
       refused_first (packing contents ns room) _ (λ body e. (left_of (body_read e).0.images ns, body_left contents ns room (body_read e).1 e)) h
-
-  -- Published: where packing is refused, the code's list has the count 0, and the remainder of zero stands in every place.
-  pub refused_places :
-      {number place : ℕ}
-      → packing contents ns room ≡ refused number place
-      → ((remainders_of (given (packing_remainders contents ns room))).count ≡ 0)
-      × ((i : ℕ) (d : Remainder) → i < max_columns → get_or (remainders_of (given (packing_remainders contents ns room))).values i d ≡ zero_remainder)
-  unfolding remainders_of
-  refused_places h = rw (refused_none contents ns room h) (refl, λ i d few. list_places [] i d few)
 
   -- what the body is read back as, and the remainders
   back_sum :

@@ -14,12 +14,14 @@ use Rattle.decimal.specs.Digits.{precision, digits_of, packed_of, halves_in, zer
 use Rattle.decimal.specs.Number.{exponent_limit}
 use Rattle.decimal.specs.Image.{hashes}
 use Rattle.decimal.specs.Truncation.{Truncated}
-use Rattle.decimal.proofs.DigitLaws.{digits_length, digits_padded}
-use Rattle.decimal.proofs.PackedLaws.{packed_append, packed_below, packed_zeros, packed_digits_below, halves_of_packed, halves_append, digit_halves}
-use Rattle.codec.specs.Columns.{sign_count, exponent_count, pad_count}
+use Rattle.decimal.proofs.DigitLaws.{digits_length, digits_padded, zeros_length}
+use Rattle.decimal.proofs.PackedLaws.{packed_append, packed_below, packed_zeros, halves_of_packed, halves_append, digit_halves}
+use Rattle.codec.specs.Columns.{sign_count, half_count, pad_count, column_size}
 use Rattle.codec.specs.Halves.{pack_halves}
+use Rattle.codec.specs.Alpha.{zero_at}
 use Rattle.codec.specs.Packing.{exponent_size, sign_halves, exponent_halves, column_halves, column_bytes}
-use Rattle.codec.proofs.HalfLaws.{sign_halves_below, sign_halves_length}
+use Rattle.codec.proofs.ContentsLaws.{sign_few, exponent_few}
+use Rattle.codec.proofs.HalfLaws.{sign_halves_below, sign_halves_length, exponent_halves_below, exponent_halves_length, column_even, column_halves_below}
 
 -- The bytes that a run makes.
 
@@ -56,14 +58,6 @@ run_at (suc size) run (suc k) h =
     ∙ run_at size run k (omega arith)
     ∙ ap (λ (m : ℕ). run / 2 ^ (8 * m) % 2 ^ 8) place
 
--- an even count of half bytes is packed apart from what follows
-pub pack_halves_append : (xs ys : List ℕ) (k : ℕ) → length xs ≡ 2 * k → pack_halves (xs ++ ys) ≡ pack_halves xs ++ pack_halves ys
-unfolding pack_halves
-pack_halves_append [] ys k e = refl
-pack_halves_append (h ∷ []) ys k e = absurd (omega arith)
-pack_halves_append (h ∷ (l ∷ xs)) ys zero e = absurd (omega arith)
-pack_halves_append (h ∷ (l ∷ xs)) ys (suc k) e = ap (λ (bs : List ℕ). (h * 16 + l) ∷ bs) (pack_halves_append xs ys k (omega arith))
-
 -- The run of a column.
 
 -- the digits of a number that has no more of them than an image
@@ -75,36 +69,51 @@ run_digits {n} {whole} few small e =
     ∙ ap packed_of (digits_padded (precision - n) n whole small)
     ∙ packed_zeros (precision - n) (digits_of n whole)
 
--- a half byte put before n digits
-pub run_signed :
-    (n whole : ℕ) {half run : ℕ}
-    → n ≤ precision
-    → half < 2 ^ 4
-    → run ≡ packed_of (digits_of n whole)
-    → bit_or (half * 2 ^ (4 * n) % 2 ^ 64) run ≡ packed_of (half ∷ digits_of n whole)
-unfolding packed_of
-run_signed n whole {half} {run} few small e =
-    let below : run < 2 ^ (4 * n) = rw e (packed_digits_below n whole) in
-    let exact : half * 2 ^ (4 * n) % 2 ^ 64 ≡ half * 2 ^ (4 * n) = shl_exact 4 (4 * n) 64 small (omega arith) in
-    ap (λ (h : ℕ). bit_or h run) exact
-    ∙ or_shifted half (4 * n) run below
-    ∙ ap₂ (λ (k r : ℕ). half * 2 ^ (4 * k) + r) (sym (digits_length n whole)) e
-
--- a half byte put behind a run
-pub run_behind :
-    (n : ℕ) (hs : List ℕ) {run half : ℕ}
-    → length hs ≡ n
-    → n < 16
+-- half bytes put behind others
+pub run_joined :
+    (hs ts : List ℕ) {n run behind : ℕ}
+    → length ts ≡ n
+    → length hs + n ≤ 16
     → Halves hs
-    → half < 2 ^ 4
+    → Halves ts
     → run ≡ packed_of hs
-    → bit_or (run * 2 ^ 4 % 2 ^ 64) half ≡ packed_of (hs ++ half ∷ [])
+    → behind ≡ packed_of ts
+    → bit_or (run * 2 ^ (4 * n) % 2 ^ 64) behind ≡ packed_of (hs ++ ts)
+run_joined hs ts {n} {run} {behind} long few first last front back =
+    let above : run < 2 ^ (4 * length hs) = rw front (packed_below hs first) in
+    let below : behind < 2 ^ (4 * n) = rw (back, ← long) (packed_below ts last) in
+    let exact : run * 2 ^ (4 * n) % 2 ^ 64 ≡ run * 2 ^ (4 * n) = shl_exact (4 * length hs) (4 * n) 64 above (omega arith) in
+    ap (λ (h : ℕ). bit_or h behind) exact
+    ∙ or_shifted run (4 * n) behind below
+    ∙ rw (front, back, ← long) (sym (packed_append hs ts))
+
+-- zero half bytes put behind others
+pub run_padded :
+    (hs : List ℕ) (n : ℕ) {run : ℕ}
+    → length hs + n ≤ 16
+    → Halves hs
+    → run ≡ packed_of hs
+    → run * 2 ^ (4 * n) % 2 ^ 64 ≡ packed_of (hs ++ zeros n)
 unfolding packed_of
-run_behind n hs {run} {half} long few halves small e =
-    let below : run < 2 ^ (4 * n) = rw (e, ← long) (packed_below hs halves) in
-    let exact : run * 2 ^ 4 % 2 ^ 64 ≡ run * 2 ^ 4 = shl_exact (4 * n) 4 64 below (omega arith) in
-    let joined : packed_of (hs ++ half ∷ []) ≡ packed_of hs * 2 ^ 4 + (half * 1 + 0) = packed_append hs (half ∷ []) in
-    ap (λ (h : ℕ). bit_or h half) exact ∙ or_shifted run 4 half small ∙ omega (arith, joined)
+run_padded hs n {run} few halves e =
+    let above : run < 2 ^ (4 * length hs) = rw e (packed_below hs halves) in
+    let none : packed_of (zeros n) ≡ 0 = ap packed_of (sym (append-nil (zeros n))) ∙ packed_zeros n [] in
+    shl_exact (4 * length hs) (4 * n) 64 above (omega arith)
+    ∙ rw e (omega (arith, none, packed_append hs (zeros n), ap (λ (k : ℕ). packed_of hs * 2 ^ (4 * k)) (zeros_length n)))
+
+-- the two digits of |x|
+pub exponent_made :
+    (t : Truncated) {size : ℕ}
+    → size ≡ exponent_size t
+    → size ≤ exponent_limit
+    → bit_or (size / 10 * 2 ^ 4 % 2 ^ 64) (size % 10) ≡ packed_of (exponent_halves true t)
+unfolding exponent_halves digits_of packed_of Halves
+exponent_made t {size} sized small =
+    let tens : size / 10 ≡ size / 10 % 10 = sym (mod-eq_of_lt (omega arith)) in
+    let ones : size % 10 ≡ size / 1 % 10 = ap (λ (k : ℕ). k % 10) (omega arith) in
+    run_joined (size / 10 ∷ []) (size % 10 ∷ []) {run = size / 10} {behind = size % 10} refl (omega arith) (omega arith, tt) (omega arith, tt) (omega arith) (omega arith)
+    ∙ ap₂ (λ (a b : ℕ). packed_of (a ∷ (b ∷ []))) tens ones
+    ∙ ap (λ (k : ℕ). packed_of (digits_of 2 k)) sized
 
 module _ (im : Image) (t : Truncated) where
   -- a column's half bytes before the exponent: the sign half, if the image has a sign, and the digits
@@ -122,74 +131,51 @@ module _ (im : Image) (t : Truncated) where
   front_halves =
       halves_append (sign_halves im.sign t) (digits_of (hashes im) t.whole) (sign_halves_below im.sign t) (digit_halves (hashes im) t.whole)
 
-  -- the column: what stands before the exponent, the exponent and the pad
-  column_parts : {b : Bool} {p : ℕ} → im.exponential ≡ b → pad_count im ≡ p → column_halves im t ≡ column_front ++ (exponent_halves b t ++ zeros p)
+  -- the exponent, where there is one, put behind them
+  pub exponent_joined :
+      {run size : ℕ}
+      → hashes im ≤ precision
+      → im.exponential ≡ true
+      → run ≡ packed_of column_front
+      → size ≡ packed_of (exponent_halves true (zero_at t.x))
+      → bit_or (run * 2 ^ 8 % 2 ^ 64) size ≡ packed_of (column_front ++ exponent_halves im.exponential t)
+  unfolding exponent_halves exponent_size
+  exponent_joined few kind front behind =
+      run_joined column_front (exponent_halves true t) (exponent_halves_length true t) (omega (arith, front_length, sign_few im.sign)) front_halves (exponent_halves_below true t) front behind
+      ∙ ap (λ (b : Bool). packed_of (column_front ++ exponent_halves b t)) (sym kind)
+
+  -- in fixed point there is none
+  pub exponent_none :
+      {run : ℕ} → im.exponential ≡ false → run ≡ packed_of column_front → run ≡ packed_of (column_front ++ exponent_halves im.exponential t)
+  unfolding exponent_halves
+  exponent_none kind front = front ∙ rw kind (ap packed_of (sym (append-nil column_front)))
+
+  -- and the pad behind it
+  pub column_padded :
+      {run count : ℕ}
+      → hashes im ≤ precision
+      → run ≡ packed_of (column_front ++ exponent_halves im.exponential t)
+      → count ≡ half_count im
+      → run * 2 ^ (4 * (count % 2)) % 2 ^ 64 ≡ packed_of (column_halves im t)
   unfolding column_halves
-  column_parts kind pad =
-      sym (append_assoc (sign_halves im.sign t) (digits_of (hashes im) t.whole) (exponent_halves im.exponential t ++ zeros (pad_count im)))
-      ∙ ap₂ (λ (b : Bool) (p : ℕ). column_front ++ (exponent_halves b t ++ zeros p)) kind pad
+  column_padded {run} few before counted =
+      let tail = exponent_halves im.exponential t in
+      let long : length (column_front ++ tail) ≡ half_count im =
+      length-append column_front tail ∙ omega (arith, front_length, exponent_halves_length im.exponential t) in
+      ap (λ (n : ℕ). run * 2 ^ (4 * (n % 2)) % 2 ^ 64) counted
+      ∙ run_padded (column_front ++ tail) (pad_count im) (omega (arith, sign_few im.sign, exponent_few im.exponential))
+      (halves_append column_front tail front_halves (exponent_halves_below im.exponential t)) before
+      ∙ ap packed_of (append_assoc column_front tail (zeros (pad_count im)) ∙ append_assoc (sign_halves im.sign t) (digits_of (hashes im) t.whole) (tail ++ zeros (pad_count im)))
 
-  -- an even count and no exponent: the run is the column
-  pub bytes_even_fixed :
-      (k : ℕ) → sign_count im.sign + hashes im ≡ 2 * k → im.exponential ≡ false → pack_halves (halves_in (2 * k) (packed_of column_front)) ≡ column_bytes im t
-  unfolding column_bytes exponent_halves zeros
-  bytes_even_fixed k even kind =
-      let pad : pad_count im ≡ 0 = ap (λ (b : Bool). (sign_count im.sign + (hashes im + exponent_count b)) % 2) kind ∙ omega arith in
-      ap pack_halves
-      (halves_of_packed (2 * k) column_front (front_length ∙ even) front_halves ∙ sym (append-nil column_front) ∙ sym (column_parts kind pad))
+  -- a run of a whole column makes the column's bytes
+  pub run_column :
+      {size run : ℕ} → size ≡ column_size im → run ≡ packed_of (column_halves im t) → pack_halves (halves_in (2 * size) run) ≡ column_bytes im t
+  unfolding column_bytes
+  run_column {size} sized made =
+      ap (λ (r : ℕ). pack_halves (halves_in (2 * size) r)) made
+      ∙ ap pack_halves (halves_of_packed (2 * size) (column_halves im t) (omega (arith, column_even im t)) (column_halves_below im t))
 
-  -- an odd count and no exponent: a zero half behind the run
-  pub bytes_odd_fixed :
-      (k : ℕ)
-      → sign_count im.sign + hashes im + 1 ≡ 2 * k
-      → im.exponential ≡ false
-      → pack_halves (halves_in (2 * k) (packed_of (column_front ++ 0 ∷ []))) ≡ column_bytes im t
-  unfolding column_bytes exponent_halves zeros Halves
-  bytes_odd_fixed k odd kind =
-      let pad : pad_count im ≡ 1 = ap (λ (b : Bool). (sign_count im.sign + (hashes im + exponent_count b)) % 2) kind ∙ omega arith in
-      ap pack_halves
-      (halves_of_packed (2 * k) (column_front ++ 0 ∷ []) (omega (arith, length-append column_front (0 ∷ []), front_length))
-      (halves_append column_front (0 ∷ []) front_halves (omega arith, tt))
-      ∙ sym (column_parts kind pad))
-
-  module _ (small : exponent_size t ≤ exponent_limit) where
-    -- two digits of |x|
-    exponent_digits : exponent_halves true t ≡ exponent_size t / 10 ∷ (exponent_size t % 10 ∷ [])
-    unfolding exponent_halves digits_of
-    exponent_digits =
-        let tens : exponent_size t / 10 % 10 ≡ exponent_size t / 10 = mod-eq_of_lt (omega arith) in
-        ap₂ (λ (a b : ℕ). a ∷ (b ∷ [])) tens (ap (λ (k : ℕ). k % 10) (omega arith))
-
-    -- an even count: the exponent's two digits are a byte behind the run
-    pub bytes_even :
-        (k : ℕ)
-        → sign_count im.sign + hashes im ≡ 2 * k
-        → im.exponential ≡ true
-        → pack_halves (halves_in (2 * k) (packed_of column_front)) ++ ((exponent_size t / 10 * 16 + exponent_size t % 10) ∷ []) ≡ column_bytes im t
-    unfolding column_bytes zeros pack_halves
-    bytes_even k even kind =
-        let pad : pad_count im ≡ 0 = ap (λ (b : Bool). (sign_count im.sign + (hashes im + exponent_count b)) % 2) kind ∙ omega arith in
-        let behind : List ℕ = exponent_size t / 10 ∷ (exponent_size t % 10 ∷ []) in
-        ap (λ (hs : List ℕ). pack_halves hs ++ pack_halves behind) (halves_of_packed (2 * k) column_front (front_length ∙ even) front_halves)
-        ∙ sym (pack_halves_append column_front behind k (front_length ∙ even))
-        ∙ ap pack_halves (sym (column_parts kind pad ∙ ap (λ (hs : List ℕ). column_front ++ (hs ++ [])) exponent_digits))
-
-    -- an odd count: the first digit fills the run's last byte, and the second one and a zero half are a byte behind it
-    pub bytes_odd :
-        (k : ℕ)
-        → sign_count im.sign + hashes im + 1 ≡ 2 * k
-        → im.exponential ≡ true
-        → pack_halves (halves_in (2 * k) (packed_of (column_front ++ exponent_size t / 10 ∷ []))) ++ ((exponent_size t % 10 * 16) ∷ []) ≡ column_bytes im t
-    unfolding column_bytes zeros pack_halves Halves
-    bytes_odd k odd kind =
-        let pad : pad_count im ≡ 1 = ap (λ (b : Bool). (sign_count im.sign + (hashes im + exponent_count b)) % 2) kind ∙ omega arith in
-        let tens : ℕ = exponent_size t / 10 in
-        let behind : List ℕ = exponent_size t % 10 ∷ (0 ∷ []) in
-        let long : length (column_front ++ tens ∷ []) ≡ 2 * k = omega (arith, length-append column_front (tens ∷ []), front_length) in
-        let halves : Halves (column_front ++ tens ∷ []) = halves_append column_front (tens ∷ []) front_halves (omega arith, tt) in
-        let last : ◌≡◌ {A = List ℕ} ((exponent_size t % 10 * 16) ∷ []) (pack_halves behind) = ap (λ (b : ℕ). b ∷ []) (omega arith) in
-        ap₂ (λ (hs bs : List ℕ). pack_halves hs ++ bs) (halves_of_packed (2 * k) (column_front ++ tens ∷ []) long halves) last
-        ∙ sym (pack_halves_append (column_front ++ tens ∷ []) behind k long)
-        ∙ ap pack_halves
-        (append_assoc column_front (tens ∷ []) behind
-        ∙ sym (column_parts kind pad ∙ ap (λ (hs : List ℕ). column_front ++ (hs ++ 0 ∷ [])) exponent_digits))
+  -- a column is at most as many bytes as a run of half bytes makes
+  pub run_room : hashes im ≤ precision → column_size im ≤ 8
+  unfolding column_size
+  run_room few = omega (arith, sign_few im.sign, exponent_few im.exponential)

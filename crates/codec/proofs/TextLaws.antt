@@ -1,31 +1,34 @@
 -- Laws of reading a text number: what its parts are from a place on, the laws of the loops that read blanks and digits, and how the
 -- parts make the whole. Assumes nothing.
-use Prim.Native.Nat.{ℕ, zero, suc, ◌+◌, ◌-◌, ◌*◌, ◌^◌, ◌<◌, ◌≤◌}
+use Prim.Native.Nat.{ℕ, zero, suc, ◌+◌, ◌-◌, ◌*◌, ◌^◌, ◌<◌, ◌≤◌, min}
 use mathlib.Core.Path.{◌≡◌, refl, ap, sym, ◌∙◌}
-use mathlib.Core.Logic.{⊎_elim}
+use mathlib.Core.Logic.{◌⊎◌, inl, inr, ⊎_elim}
 use mathlib.Core.List.{List, [], ◌∷◌, ◌++◌}
-use mathlib.Core.Bool.{Bool, true, false}
+use mathlib.Core.Bool.{Bool, true, false, ◌&&◌}
+use Rattle.std.specs.Char.{is_ascii_digit}
+use Rattle.std.proofs.lemmas.List.{get_or-drop, get_or-take, length-take, take_rest}
 use native.Mathlib.Nat.{mul_comm, mul_assoc, add-mul, mul-le-mul_right}
 use native.Mathlib.Numerals.{add-one}
 use native.Mathlib.Omega.{arith}
-use borrow.Author.Tests.{ltb-true, leb-true, lt-ltb, le-ltb, le-leb, lt-leb, eq-eqb, ne_eqb}
-use lib.Dec.{ltb, leb, eqb}
-use lib.ListN.{length, drop, get_or, length-append, length-drop, drop_of_length-le}
-use lib.Seq.{drop-cons, drop-drop}
+use borrow.Author.Tests.{ltb-true, leb-true, eq-eqb, ne_eqb}
+use lib.Dec.{ltb, leb, eqb, leb-suc-suc}
+use lib.ListN.{length, take, drop, get_or, length-append, length-drop}
+use lib.Seq.{drop-cons}
 use Rattle.decimal.specs.declared.image.Sign.{Sign}
 use Rattle.decimal.specs.declared.image.Sign.TheVariants.{Unsigned, Plus, Minus}
 use Rattle.decimal.specs.declared.number.Number.{Number}
 use Rattle.decimal.specs.Answer.{Answer, done, refused, ◌then◌, pick}
 use Rattle.decimal.specs.Digits.{precision, Digits, value_of}
 use Rattle.decimal.specs.Number.{exponent_limit, scaled_number}
-use Rattle.decimal.specs.Image.{plus_byte, minus_byte, point_byte, sign_bytes, sign_of}
+use Rattle.decimal.specs.Image.{point_byte, sign_bytes, sign_of}
 use Rattle.decimal.proofs.AnswerLaws.{then_next, then_refused}
 use Rattle.decimal.proofs.BoolLaws.{and_true, zero_or_not}
 use Rattle.decimal.proofs.PowerLaws.{pow10_add, pow10_suc, pow10_mono, times_ten, times_power}
 use Rattle.decimal.proofs.DigitLaws.{le_or_lt, value_append, value_below}
 use Rattle.decimal.proofs.ImageLaws.{times_length}
 use Rattle.codec.specs.declared.text.Numeral.{Numeral}
-use Rattle.codec.specs.Alpha.{blank_byte, exponent_byte, zero_byte, digit_bytes}
+use Rattle.codec.specs.Columns.{sign_count}
+use Rattle.codec.specs.Alpha.{exponent_byte, zero_byte, digit_bytes}
 use Rattle.codec.specs.Text.{
   PointPart,
   no_point,
@@ -70,7 +73,7 @@ use Rattle.codec.specs.Text.{
   PowerFound,
   NumeralFound,
 }
-use Rattle.codec.proofs.AlphaLaws.{digit_bytes_length}
+use Rattle.codec.proofs.AlphaLaws.{digit_bytes_length, sign_bytes_length}
 
 -- Bytes that are digits.
 
@@ -82,100 +85,73 @@ digit_byte b h =
     let top = ltb-true b (zero_byte + 10) both.1 in
     (low, omega arith)
 
--- a byte below that of 0 is none
-pub digit_low : (b : ℕ) → b < zero_byte → is_digit b ≡ false
-digit_low b h = rw (lt-leb zero_byte b h)
+-- the library's test of a digit
+pub ascii_digit : (b : ℕ) → is_ascii_digit b ≡ is_digit b
+ascii_digit b = ap (λ (test : Bool). leb zero_byte b && test) (sym (leb-suc-suc b 57))
 
--- from there on the byte of 9 is the last
-pub digit_high : (b : ℕ) → zero_byte ≤ b → is_digit b ≡ leb b (zero_byte + 9)
-digit_high b h =
-    ⊎_elim
-    (λ g. rw (le-leb zero_byte b h, le-leb b (zero_byte + 9) g, lt-ltb b (zero_byte + 10) (omega arith)))
-    (λ g. rw (le-leb zero_byte b h, lt-leb b (zero_byte + 9) g, le-ltb b (zero_byte + 10) (omega arith)))
-    (le_or_lt b (zero_byte + 9))
+-- what a slice from a place on is
+abbrev pub onward : ℕ → List ℕ → List ℕ
+onward place bytes = take (length bytes - place) (drop place bytes)
 
--- What stands from a place on.
+-- What bytes begin with.
 
-module _ (text : List ℕ) (place : ℕ) where
-  -- no blank behind the end
-  pub blanks_end : length text ≤ place → blanks_in (drop place text) ≡ 0
-  unfolding blanks_in
-  blanks_end h = ap blanks_in (drop_of_length-le text h)
+-- no sign where there is no byte
+pub sign_none : (text : List ℕ) → length text ≡ 0 → Unsigned ≡ sign_in text
+unfolding sign_in
+sign_none [] h = refl
+sign_none (b ∷ bs) h = absurd (omega arith)
 
-  -- a blank counts
-  pub blanks_more : place < length text → get_or text place 0 ≡ blank_byte → blanks_in (drop place text) ≡ suc (blanks_in (drop (place + 1) text))
-  unfolding blanks_in
-  blanks_more h e = rw (add-one place, drop-cons text place 0 h, eq-eqb (get_or text place 0) blank_byte e)
+-- the first byte says the sign
+pub sign_some : (text : List ℕ) → 0 < length text → sign_of (get_or text 0 0) ≡ sign_in text
+unfolding sign_in
+sign_some [] h = absurd (omega arith)
+sign_some (b ∷ bs) h = refl
 
-  -- another byte ends the blanks
-  pub blanks_other : place < length text → (get_or text place 0 ≡ blank_byte → ⊥) → blanks_in (drop place text) ≡ 0
-  unfolding blanks_in
-  blanks_other h e = rw (drop-cons text place 0 h, ne_eqb (get_or text place 0) blank_byte e)
+-- no digit behind the end, or where none is asked for
+pub digits_none : (most : ℕ) (bytes : List ℕ) → (length bytes ≡ 0) ⊎ (most ≡ 0) → digits_in most bytes ≡ []
+unfolding digits_in
+digits_none zero bytes h = refl
+digits_none (suc most) [] h = refl
+digits_none (suc most) (b ∷ bs) h = ⊎_elim (λ (e : length (b ∷ bs) ≡ 0). absurd (omega arith)) (λ (e : suc most ≡ 0). absurd (omega arith)) h
 
-  -- no sign behind the end
-  pub sign_end : length text ≤ place → sign_in (drop place text) ≡ Unsigned
-  unfolding sign_in
-  sign_end h = ap sign_in (drop_of_length-le text h)
+-- another byte ends the digits
+pub digits_other : (most : ℕ) (bytes : List ℕ) → 0 < length bytes → is_digit (get_or bytes 0 0) ≡ false → digits_in most bytes ≡ []
+unfolding digits_in
+digits_other zero bytes h e = refl
+digits_other (suc most) [] h e = refl
+digits_other (suc most) (b ∷ bs) h e = rw e
 
-  -- the byte at the place says the sign
-  pub sign_here : place < length text → sign_in (drop place text) ≡ sign_of (get_or text place 0)
-  unfolding sign_in
-  sign_here h = rw (drop-cons text place 0 h)
+-- a digit stands before the others
+pub digits_more : (most place : ℕ) (text : List ℕ) → place < length text → is_digit (get_or text place 0) ≡ true
+    → digits_in (suc most) (drop place text) ≡ (get_or text place 0 - zero_byte) ∷ digits_in most (drop (place + 1) text)
+unfolding digits_in
+digits_more most place text h e = rw (add-one place, drop-cons text place 0 h, e)
 
-  -- no digit behind the end
-  pub digits_end : (most : ℕ) → length text ≤ place → digits_in most (drop place text) ≡ []
-  unfolding digits_in
-  digits_end zero h = refl
-  digits_end (suc most) h = ap (digits_in (suc most)) (drop_of_length-le text h)
+-- no byte, or another one: no point
+pub point_none : (most : ℕ) (text : List ℕ) → (0 < length text → get_or text 0 0 ≡ point_byte → ⊥) → point_in most text ≡ no_point
+unfolding point_in
+point_none most [] h = refl
+point_none most (b ∷ bs) h = rw (ne_eqb b point_byte (h (omega arith)))
 
-  -- another byte ends the digits
-  pub digits_other : (most : ℕ) → place < length text → is_digit (get_or text place 0) ≡ false → digits_in most (drop place text) ≡ []
-  unfolding digits_in
-  digits_other zero h e = refl
-  digits_other (suc most) h e = rw (drop-cons text place 0 h, e)
+-- a point and the digits behind it
+pub point_some : (most : ℕ) (text : List ℕ) → 0 < length text → get_or text 0 0 ≡ point_byte
+    → point_in most text ≡ point (digits_in most (drop 1 text))
+unfolding point_in
+point_some most [] h e = absurd (omega arith)
+point_some most (b ∷ bs) h e = rw (eq-eqb b point_byte e)
 
-  -- a digit stands before the others
-  pub digits_more : (most : ℕ) → place < length text → is_digit (get_or text place 0) ≡ true
-      → digits_in (suc most) (drop place text) ≡ (get_or text place 0 - zero_byte) ∷ digits_in most (drop (place + 1) text)
-  unfolding digits_in
-  digits_more most h e = rw (add-one place, drop-cons text place 0 h, e)
+-- no byte, or another one: no exponent
+pub power_absent : (text : List ℕ) → (0 < length text → get_or text 0 0 ≡ exponent_byte → ⊥) → power_in text ≡ no_exponent
+unfolding power_in
+power_absent [] h = refl
+power_absent (b ∷ bs) h = rw (ne_eqb b exponent_byte (h (omega arith)))
 
-  -- no point behind the end
-  pub point_end : (most : ℕ) → length text ≤ place → point_in most (drop place text) ≡ no_point
-  unfolding point_in
-  point_end most h = ap (point_in most) (drop_of_length-le text h)
-
-  -- another byte is no point
-  pub point_other : (most : ℕ) → place < length text → (get_or text place 0 ≡ point_byte → ⊥) → point_in most (drop place text) ≡ no_point
-  unfolding point_in
-  point_other most h e = rw (drop-cons text place 0 h, ne_eqb (get_or text place 0) point_byte e)
-
-  -- a point and the digits behind it
-  pub point_here : (most : ℕ) → place < length text → get_or text place 0 ≡ point_byte
-      → point_in most (drop place text) ≡ point (digits_in most (drop (place + 1) text))
-  unfolding point_in
-  point_here most h e = rw (add-one place, drop-cons text place 0 h, eq-eqb (get_or text place 0) point_byte e)
-
-  -- no exponent behind the end
-  pub power_end : length text ≤ place → power_in (drop place text) ≡ no_exponent
-  unfolding power_in
-  power_end h = ap power_in (drop_of_length-le text h)
-
-  -- another byte is no exponent
-  pub power_other : place < length text → (get_or text place 0 ≡ exponent_byte → ⊥) → power_in (drop place text) ≡ no_exponent
-  unfolding power_in
-  power_other h e = rw (drop-cons text place 0 h, ne_eqb (get_or text place 0) exponent_byte e)
-
-  -- E, and what the sign and the digits behind it make
-  pub power_here : place < length text → get_or text place 0 ≡ exponent_byte
-      → power_in (drop place text)
-      ≡ power_of (sign_in (drop (place + 1) text)) (digits_in 2 (drop (sign_length (sign_in (drop (place + 1) text))) (drop (place + 1) text)))
-  unfolding power_in
-  power_here h e = rw (add-one place, drop-cons text place 0 h, eq-eqb (get_or text place 0) exponent_byte e)
-
--- a byte that is no sign
-pub no_sign : (b : ℕ) → (b ≡ plus_byte → ⊥) → (b ≡ minus_byte → ⊥) → sign_of b ≡ Unsigned
-no_sign b p m = rw (ne_eqb b plus_byte p, ne_eqb b minus_byte m)
+-- E, and what the sign and the digits behind it make
+power_there : (text : List ℕ) → 0 < length text → get_or text 0 0 ≡ exponent_byte
+    → power_in text ≡ power_of (sign_in (drop 1 text)) (digits_in 2 (drop (sign_length (sign_in (drop 1 text))) (drop 1 text)))
+unfolding power_in
+power_there [] h e = absurd (omega arith)
+power_there (b ∷ bs) h e = rw (eq-eqb b exponent_byte e)
 
 -- Values that are held.
 
@@ -198,77 +174,89 @@ behind_more value digit ds =
 -- The loop that reads digits: what was read and what is left make the whole.
 
 -- the digits read before a count, and those from there on
-pub record Running (text : List ℕ) (place most start value count : ℕ) : Type 0 where
-  pub few : count ≤ most
-  pub inside : place + count ≤ length text
+pub record Running (text : List ℕ) (most start value count : ℕ) : Type 0 where
   pub held : DigitsFit value (most - count)
-  pub counts : count + length (digits_in (most - count) (drop (place + count) text)) ≡ length (digits_in most (drop place text))
-  pub values : behind_value value (digits_in (most - count) (drop (place + count) text)) ≡ behind_value start (digits_in most (drop place text))
+  pub counts : count + length (digits_in (most - count) (drop count text)) ≡ length (digits_in most text)
+  pub values : behind_value value (digits_in (most - count) (drop count text)) ≡ behind_value start (digits_in most text)
 
 -- before the first digit
-pub running_starts : (text : List ℕ) (place most start : ℕ) → place ≤ length text → DigitsFit start most → Running text place most start start 0
-running_starts text place most start h held =
+pub running_starts : (text : List ℕ) (most start : ℕ) → DigitsFit start most → Running text most start start 0
+running_starts text most start held =
     let all : most - 0 ≡ most = omega arith in
-    let here : place + 0 ≡ place = omega arith in
-    let same : digits_in (most - 0) (drop (place + 0) text) ≡ digits_in most (drop place text) = λ i. digits_in (all i) (drop (here i) text) in
-    record {
-      few = omega arith;
-      inside = omega arith;
-      held = rw all held;
-      counts = omega (arith, ap length same);
-      values = ap (behind_value start) same;
-    }
+    let same : digits_in (most - 0) text ≡ digits_in most text = ap (λ (n : ℕ). digits_in n text) all in
+    record { held = rw all held; counts = omega (arith, ap length same); values = ap (behind_value start) same }
 
--- after one digit more
-pub running_turns : {text : List ℕ} {place most start value count : ℕ} → Running text place most start value count
-    → count < most → place + count < length text → is_digit (get_or text (place + count) 0) ≡ true
-    → Running text place most start (value * 10 + (get_or text (place + count) 0 - zero_byte)) (count + 1)
-running_turns {text} {place} {most} {start} {value} {count} r more there digit =
-    let left : most - count ≡ suc (most - (count + 1)) = omega arith in
-    let b = get_or text (place + count) 0 in
-    let next : place + count + 1 ≡ place + (count + 1) = omega arith in
-    let ds = digits_in (most - (count + 1)) (drop (place + (count + 1)) text) in
-    let step : digits_in (most - count) (drop (place + count) text) ≡ (b - zero_byte) ∷ ds =
-    ap (λ (n : ℕ). digits_in n (drop (place + count) text)) left
-    ∙ digits_more text (place + count) (most - (count + 1)) there digit
-    ∙ ap (λ (p : ℕ). (b - zero_byte) ∷ digits_in (most - (count + 1)) (drop p text)) next in
-    let held : DigitsFit value (suc (most - (count + 1))) = rw left at r.held in
-    let lengths : length (digits_in (most - count) (drop (place + count) text)) ≡ suc (length ds) = ap length step in
-    let valued : behind_value value (digits_in (most - count) (drop (place + count) text)) ≡ behind_value (value * 10 + (b - zero_byte)) ds =
-    ap (behind_value value) step ∙ behind_more value (b - zero_byte) ds in
-    record {
-      few = omega arith;
-      inside = omega arith;
-      held = held_more value (b - zero_byte) (most - (count + 1)) (digit_byte b digit).1 held;
-      counts = omega (arith, r.counts);
-      values = sym valued ∙ r.values;
-    }
+module _ {text : List ℕ} {most start value count size : ℕ} (r : Running text most start value count) (cut : size ≡ min most (length text)) where
+  -- where no digit is left
+  running_ends : digits_in (most - count) (drop count text) ≡ [] → RunFound text most start value count
+  unfolding value_of
+  running_ends none =
+      let valued : behind_value value (digits_in (most - count) (drop count text)) ≡ behind_value value [] = ap (behind_value value) none in
+      record {
+        counted = omega (arith, ap length none, r.counts);
+        valued = omega (arith, valued, r.values);
+      }
 
--- where no digit is left
-pub running_ends : {text : List ℕ} {place most start value count : ℕ} → Running text place most start value count
-    → digits_in (most - count) (drop (place + count) text) ≡ [] → RunFound (drop place text) most start value count
-unfolding value_of
-running_ends {text} {place} {most} {start} {value} {count} r none =
-    let valued : behind_value value (digits_in (most - count) (drop (place + count) text)) ≡ behind_value value [] = ap (behind_value value) none in
-    record {
-      counted = omega (arith, ap length none, r.counts);
-      valued = omega (arith, valued, r.values);
-    }
+  -- behind the last byte, or the last digit that is asked for
+  pub running_full : length (take size text) ≤ count → count ≤ length (take size text) → RunFound text most start value (length (take size text))
+  running_full low top =
+      let full : count ≡ length (take size text) = omega arith in
+      let long : length (take size text) ≡ min size (length text) = length-take size text in
+      rw (← full)
+      (running_ends
+      (digits_none (most - count) (drop count text)
+      (⊎_elim
+      (λ (g : most ≤ length text). inr (omega arith))
+      (λ (g : length text < most). inl (omega (arith, length-drop count text)))
+      (le_or_lt most (length text)))))
 
--- all digits that are asked for are read
-pub running_full : {text : List ℕ} {place most start value count : ℕ} → Running text place most start value count
-    → most ≤ count → digits_in (most - count) (drop (place + count) text) ≡ []
-unfolding digits_in
-running_full {text} {place} {most} {start} {value} {count} r full =
-    let none : most - count ≡ 0 = omega arith in
-    ap (λ (n : ℕ). digits_in n (drop (place + count) text)) none
+  module _ (there : count < length (take size text)) where
+    -- the byte at hand
+    abbrev byte : ℕ
+    byte = get_or (take size text) count 0
 
--- one digit more is within what the code holds
-pub running_fits : {text : List ℕ} {place most start value count : ℕ} → Running text place most start value count
-    → count < most → value * 10 + 9 < 10 ^ held_digits
-running_fits {text} {place} {most} {start} {value} {count} r more =
-    let left : most - count ≡ suc (most - (count + 1)) = omega arith in
-    held_fits value (most - (count + 1)) (rw left at r.held)
+    -- it is among the bytes that are asked for
+    within : (count < most) × (count < length text)
+    within = let long = length-take size text in (omega arith, omega arith)
+
+    -- it is the text's
+    same : byte ≡ get_or text count 0
+    same = get_or-take size text count 0 (let long = length-take size text in omega arith)
+
+    -- another byte than a digit
+    pub running_other : is_ascii_digit byte ≡ false → RunFound text most start value count
+    running_other other =
+        let first : get_or (drop count text) 0 0 ≡ byte = get_or-drop count text 0 0 ∙ ap (λ (k : ℕ). get_or text k 0) (omega arith) ∙ sym same in
+        running_ends
+        (digits_other (most - count) (drop count text) (let t = within.1 in omega (arith, length-drop count text))
+        (ap is_digit first ∙ sym (ascii_digit byte) ∙ other))
+
+    -- one digit more is within what the code holds
+    pub running_fits : is_ascii_digit byte ≡ true → (value * 10 + 9 < 10 ^ held_digits) × (zero_byte ≤ byte) × (byte - zero_byte < 10)
+    running_fits digit =
+        let more = within.0 in
+        let left : most - count ≡ suc (most - (count + 1)) = omega arith in
+        let ten = digit_byte byte (sym (ascii_digit byte) ∙ digit) in
+        (held_fits value (most - (count + 1)) (rw left at r.held), ten.0, ten.1)
+
+    -- after one digit more
+    pub running_turns : is_ascii_digit byte ≡ true → Running text most start (value * 10 + (byte - zero_byte)) (count + 1)
+    running_turns digit =
+        let more = within.0 in
+        let left : most - count ≡ suc (most - (count + 1)) = omega arith in
+        let is : is_digit byte ≡ true = sym (ascii_digit byte) ∙ digit in
+        let ds = digits_in (most - (count + 1)) (drop (count + 1) text) in
+        let step : digits_in (most - count) (drop count text) ≡ (byte - zero_byte) ∷ ds =
+        ap (λ (n : ℕ). digits_in n (drop count text)) left
+        ∙ digits_more (most - (count + 1)) count text within.1 (ap is_digit (sym same) ∙ is)
+        ∙ ap (λ (b : ℕ). (b - zero_byte) ∷ ds) (sym same) in
+        let valued : behind_value value (digits_in (most - count) (drop count text)) ≡ behind_value (value * 10 + (byte - zero_byte)) ds =
+        ap (behind_value value) step ∙ behind_more value (byte - zero_byte) ds in
+        record {
+          held = held_more value (byte - zero_byte) (most - (count + 1)) (digit_byte byte is).1 (rw left at r.held);
+          counts = omega (arith, ap length step, r.counts);
+          values = sym valued ∙ r.values;
+        }
 
 -- What is read is digits, and no part runs past the bytes.
 
@@ -304,17 +292,6 @@ digits_in_within zero bytes = omega arith
 digits_in_within (suc most) [] = omega arith
 digits_in_within (suc most) (b ∷ bs) = omega (arith, one_more (is_digit b) (b - zero_byte) (digits_in most bs), digits_in_within most bs)
 
--- one blank more is at most one more
-one_blank_more : (test : Bool) (n : ℕ) → pick test (suc n) 0 ≤ suc n
-one_blank_more true n = omega arith
-one_blank_more false n = omega arith
-
--- the blanks are within the bytes
-pub blanks_within : (bytes : List ℕ) → blanks_in bytes ≤ length bytes
-unfolding blanks_in
-blanks_within [] = omega arith
-blanks_within (b ∷ bs) = omega (arith, one_blank_more (eqb b blank_byte) (blanks_in bs), blanks_within bs)
-
 -- a sign is at most one byte
 sign_short : (sign : Sign) → sign_length sign ≤ 1
 unfolding sign_bytes
@@ -327,6 +304,13 @@ pub sign_within : (bytes : List ℕ) → sign_length (sign_in bytes) ≤ length 
 unfolding sign_bytes sign_in
 sign_within [] = omega arith
 sign_within (b ∷ bs) = omega (arith, sign_short (sign_of b))
+
+-- the code's count of a sign's bytes
+pub signs_found : (bytes : List ℕ) {sign : Sign} {signs : ℕ} → sign ≡ sign_in bytes → signs ≡ sign_count sign
+    → (signs ≡ sign_length sign) × (signs ≤ length bytes)
+signs_found bytes {sign} said counted =
+    let long = counted ∙ sym (sign_bytes_length sign) in
+    (long, omega (arith, long ∙ ap sign_length said, sign_within bytes))
 
 -- a point and digits are one byte more than the digits, or none
 point_short : (test : Bool) (ds : List ℕ) → length (point_bytes (pick test (point ds) no_point)) ≤ suc (length ds)
@@ -392,11 +376,13 @@ run_held {bytes} {value} {count} r =
     omega (arith, most, all, pow10_add count (precision - count))
 
 -- no point: no digit, and the value stays
-pub fraction_none : {bytes : List ℕ} {most : ℕ} (start : ℕ) → point_in most bytes ≡ no_point → FractionFound bytes most start start 0 0
+pub fraction_none : {most : ℕ} (text : List ℕ) (start : ℕ) → (0 < length text → get_or text 0 0 ≡ point_byte → ⊥)
+    → FractionFound text most start start 0 0
 unfolding fraction_digits point_bytes value_of
-fraction_none {bytes} {most} start none =
-    let digits : fraction_digits (point_in most bytes) ≡ [] = ap fraction_digits none in
-    let value : behind_value start (fraction_digits (point_in most bytes)) ≡ behind_value start [] = ap (behind_value start) digits in
+fraction_none {most} text start other =
+    let none = point_none most text other in
+    let digits : fraction_digits (point_in most text) ≡ [] = ap fraction_digits none in
+    let value : behind_value start (fraction_digits (point_in most text)) ≡ behind_value start [] = ap (behind_value start) digits in
     record {
       counted = sym (ap length digits);
       valued = omega (arith, value);
@@ -404,18 +390,24 @@ fraction_none {bytes} {most} start none =
     }
 
 -- a point and the run behind it
-pub fraction_some : {bytes rest : List ℕ} {most start value count : ℕ} → point_in most bytes ≡ point (digits_in most rest)
-    → RunFound rest most start value count → FractionFound bytes most start value count (count + 1)
+pub fraction_some : {most start value count : ℕ} (text : List ℕ) → 0 < length text → get_or text 0 0 ≡ point_byte
+    → RunFound (onward 1 text) most start value count → FractionFound text most start value count (count + 1)
 unfolding fraction_digits point_bytes
-fraction_some {bytes} {rest} {most} {start} {value} {count} here r =
-    let digits : fraction_digits (point_in most bytes) ≡ digits_in most rest = ap fraction_digits here in
-    let span : length (point_bytes (point_in most bytes)) ≡ suc (length (digit_bytes (digits_in most rest))) =
+fraction_some {most} {start} {value} {count} text there mark r =
+    let rest = onward 1 text in
+    let here : point_in most text ≡ point (digits_in most rest) = point_some most text there mark ∙ ap (λ (l : List ℕ). point (digits_in most l)) (sym (take_rest text 1)) in
+    let digits : fraction_digits (point_in most text) ≡ digits_in most rest = ap fraction_digits here in
+    let span : length (point_bytes (point_in most text)) ≡ suc (length (digit_bytes (digits_in most rest))) =
     ap (λ (p : PointPart). length (point_bytes p)) here in
     record {
       counted = r.counted ∙ sym (ap length digits);
       valued = r.valued ∙ sym (ap (behind_value start) digits);
       spanned = omega (arith, span, digit_bytes_length (digits_in most rest), r.counted);
     }
+
+-- they and the point are within the bytes
+pub fraction_inside : {bytes : List ℕ} {most start value count used : ℕ} → FractionFound bytes most start value count used → used ≤ length bytes
+fraction_inside {bytes} {most} f = omega (arith, f.spanned, point_within most bytes)
 
 -- the digits behind the point keep to what is asked for
 pub fraction_most : {bytes : List ℕ} {most start value count used : ℕ} → FractionFound bytes most start value count used → count ≤ most
@@ -452,36 +444,45 @@ unfolding power_of
 power_full sign [] h = absurd (h refl)
 power_full sign (d ∷ ds) h = refl
 
-module _ (text : List ℕ) (place : ℕ) (there : place < length text) (letter : get_or text place 0 ≡ exponent_byte) {sign : Sign} {signs value count : ℕ}
-    (signed : sign ≡ sign_in (drop (place + 1) text)) (long : signs ≡ sign_length sign)
-    (run : RunFound (drop (place + 1 + signs) text) 2 0 value count) where
+-- the exponent is within the bytes
+pub power_inside : {bytes : List ℕ} {up used : ℕ} → PowerFound bytes up used → used ≤ length bytes
+power_inside {bytes} p = omega (arith, p.spanned, power_within bytes)
+
+module _ (text : List ℕ) (there : 0 < length text) (letter : get_or text 0 0 ≡ exponent_byte) {sign : Sign} {signs value count : ℕ}
+    (said : sign ≡ sign_in (onward 1 text)) (counted : signs ≡ sign_count sign) (run : RunFound (onward signs (onward 1 text)) 2 0 value count) where
   -- the digits behind the sign
   abbrev digits : List ℕ
-  digits = digits_in 2 (drop (place + 1 + signs) text)
+  digits = digits_in 2 (onward signs (onward 1 text))
+
+  -- the sign's bytes
+  long : signs ≡ sign_length sign
+  long = (signs_found (onward 1 text) said counted).0
 
   -- the exponent is what the sign and the digits make
-  power_run : power_in (drop place text) ≡ power_of sign digits
+  power_run : power_in text ≡ power_of sign digits
   power_run =
-      let size : sign_length (sign_in (drop (place + 1) text)) ≡ signs = sym (long ∙ ap sign_length signed) in
-      let same : sign_in (drop (place + 1) text) ≡ sign = sym signed in
-      power_here text place there letter
-      ∙ (λ i. power_of (same i) (digits_in 2 (drop (size i) (drop (place + 1) text))))
-      ∙ ap (λ (bytes : List ℕ). power_of sign (digits_in 2 bytes)) (drop-drop signs (place + 1) text)
+      let behind : drop 1 text ≡ onward 1 text = sym (take_rest text 1) in
+      let left : drop signs (onward 1 text) ≡ onward signs (onward 1 text) = sym (take_rest (onward 1 text) signs) in
+      let size : sign_length (sign_in (onward 1 text)) ≡ signs = sym (long ∙ ap sign_length said) in
+      power_there text there letter
+      ∙ ap (λ (l : List ℕ). power_of (sign_in l) (digits_in 2 (drop (sign_length (sign_in l)) l))) behind
+      ∙ (λ i. power_of (sym said i) (digits_in 2 (drop (size i) (onward 1 text))))
+      ∙ ap (λ (l : List ℕ). power_of sign (digits_in 2 l)) left
 
   -- E without a digit behind it
-  pub power_bare : count ≡ 0 → PowerFound (drop place text) exponent_limit 0
+  pub power_bare : count ≡ 0 → PowerFound text exponent_limit 0
   power_bare none = power_none (power_run ∙ power_empty sign digits (sym run.counted ∙ none))
 
   -- E with a sign and digits
   pub power_some : (count ≡ 0 → ⊥) → {minus : Bool} → minus ≡ is_minus sign
-      → PowerFound (drop place text) (pick minus (exponent_limit - value) (exponent_limit + value)) (1 + signs + count)
+      → PowerFound text (pick minus (exponent_limit - value) (exponent_limit + value)) (1 + signs + count)
   unfolding power_value power_bytes
   power_some some {minus} is =
-      let all : power_in (drop place text) ≡ exponent sign digits = power_run ∙ power_full sign digits (λ h. some (run.counted ∙ h)) in
+      let all : power_in text ≡ exponent sign digits = power_run ∙ power_full sign digits (λ h. some (run.counted ∙ h)) in
       let size : value ≡ value_of digits = omega (arith, run.valued) in
       let up : pick minus (exponent_limit - value) (exponent_limit + value) ≡ power_value (exponent sign digits) =
       λ i. pick (is i) (exponent_limit - size i) (exponent_limit + size i) in
-      let span : length (power_bytes (power_in (drop place text))) ≡ suc (length (sign_bytes sign ++ digit_bytes digits)) =
+      let span : length (power_bytes (power_in text)) ≡ suc (length (sign_bytes sign ++ digit_bytes digits)) =
       ap (λ (p : ExponentPart). length (power_bytes p)) all in
       record {
         small = power_limits minus value (omega (arith, run_exponent run));
@@ -513,26 +514,6 @@ pub text_long : (t : TextParts) → length (all_digits_of t.numeral) ≤ length 
 text_long t =
     let u = t.numeral in
     omega (arith, text_length_lem t, numeral_length u, length-append u.integer (fraction_digits u.fraction), point_long u.fraction)
-
--- Places in a text.
-
--- what stands from a place on
-pub record Place (text rest : List ℕ) (place : ℕ) : Type 0 where
-  pub inside : place ≤ length text
-  pub ahead : drop place text ≡ rest
-
--- a place itself
-pub place_here : {text : List ℕ} {place : ℕ} → place ≤ length text → Place text (drop place text) place
-place_here h = record { inside = h; ahead = refl }
-
--- a place further on
-place_next : {text rest : List ℕ} {place : ℕ} → Place text rest place → {n m : ℕ} → n ≡ m → m ≤ length rest → Place text (drop m rest) (place + n)
-place_next {text} {rest} {place} p {n} {m} same within =
-    let left : length rest ≡ length text - place = sym (ap length p.ahead) ∙ length-drop place text in
-    record {
-      inside = omega (arith, p.inside);
-      ahead = sym (drop-drop n place text) ∙ (λ i. drop (same i) (p.ahead i));
-    }
 
 -- The parts of a numeral, one behind the other: the parts of numeralIn, by name.
 
@@ -566,35 +547,22 @@ numeral_within bytes =
       power_within (powered_in bytes),
     )
 
-module _ {text : List ℕ} (bytes : List ℕ) where
-  -- the place behind the digits before the point
-  pub place_pointed : {start value count : ℕ} → Place text bytes start → RunFound bytes precision 0 value count
-      → Place text (pointed_in bytes) (start + count)
-  unfolding pointed_in integer_in
-  place_pointed p r = place_next p r.counted (digits_in_within precision bytes)
-
-  -- the point and the digits there
-  pub fraction_found : {pointed start value count integers used : ℕ} → Place text (pointed_in bytes) pointed
-      → RunFound bytes precision 0 start integers
-      → FractionFound (drop pointed text) (precision - integers) start value count used
-      → FractionFound (pointed_in bytes) (precision - length (integer_in bytes)) start value count used
-  unfolding integer_in
-  fraction_found p r f = rw (← r.counted, ← p.ahead) f
-
-  -- the place behind them
-  pub place_powered : {pointed start value count used : ℕ} → Place text (pointed_in bytes) pointed
-      → FractionFound (pointed_in bytes) (precision - length (integer_in bytes)) start value count used
-      → Place text (powered_in bytes) (pointed + used)
-  unfolding powered_in fraction_in
-  place_powered p f = place_next p f.spanned (point_within (precision - length (integer_in bytes)) (pointed_in bytes))
-
-  -- the exponent there
-  pub power_found : {powered up used : ℕ} → Place text (powered_in bytes) powered → PowerFound (drop powered text) up used
-      → PowerFound (powered_in bytes) up used
-  power_found p r = rw p.ahead at r
+-- what is read of a numeral is within the bytes
+pub numeral_inside : {bytes : List ℕ} {n : Numeral} → NumeralFound bytes n → n.used ≤ length bytes
+numeral_inside {bytes} r = omega (arith, r.spanned, numeral_within bytes)
 
 module _ (bytes : List ℕ) {value count whole places points : ℕ} (integer : RunFound bytes precision 0 value count)
-    (fraction : FractionFound (pointed_in bytes) (precision - length (integer_in bytes)) value whole places points) where
+    (part : FractionFound (onward count bytes) (precision - count) value whole places points) where
+  -- the bytes behind the digits before the point
+  to_point : onward count bytes ≡ pointed_in bytes
+  unfolding pointed_in integer_in
+  to_point = take_rest bytes count ∙ ap (λ (n : ℕ). drop n bytes) integer.counted
+
+  -- the point and the digits there
+  fraction : FractionFound (pointed_in bytes) (precision - length (integer_in bytes)) value whole places points
+  unfolding integer_in
+  fraction = rw (← integer.counted, ← to_point) part
+
   -- the digits are those before the point and those behind it
   digits_found : length (all_digits_of (numeral_in bytes)) ≡ count + places
   unfolding numeral_in fraction_in pointed_in integer_in
@@ -609,10 +577,13 @@ module _ (bytes : List ℕ) {value count whole places points : ℕ} (integer : R
       ∙ sym (fraction.valued ∙ ap (λ (v : ℕ). behind_value v (fraction_digits (fraction_in bytes))) before)
 
   -- the parts make the numeral
-  pub numeral_found : {up powers : ℕ} → PowerFound (powered_in bytes) up powers
+  pub numeral_found : {up powers : ℕ} → PowerFound (onward points (onward count bytes)) up powers
       → NumeralFound bytes (record { count = count + places; value = whole; places = places; up = up; used = count + points + powers })
   unfolding numeral_in powered_in fraction_in pointed_in integer_in
-  numeral_found power =
+  numeral_found found =
+      let to_power : onward points (onward count bytes) ≡ powered_in bytes =
+      take_rest (onward count bytes) points ∙ (λ i. drop (fraction.spanned i) (to_point i)) in
+      let power = rw to_power at found in
       record {
         counted = sym digits_found;
         valued = sym value_found;
@@ -636,38 +607,6 @@ unsigned_in text = drop (sign_length (sign_in (signed_in text))) (signed_in text
 -- the bytes behind the numeral
 unfoldable pub end_in : List ℕ → List ℕ
 end_in text = drop (length (numeral_bytes (numeral_in (unsigned_in text)))) (unsigned_in text)
-
-module _ {text : List ℕ} where
-  -- the place behind the blanks
-  pub place_signed : {before : ℕ} → before ≡ blanks_in text → Place text (signed_in text) before
-  unfolding signed_in
-  place_signed {before} e =
-      record { inside = omega (arith, blanks_within text); ahead = ap (λ (n : ℕ). drop n text) e }
-
-  -- the sign there
-  pub sign_found : {before : ℕ} {sign : Sign} → Place text (signed_in text) before → sign ≡ sign_in (drop before text) → sign ≡ sign_in (signed_in text)
-  sign_found p e = e ∙ ap sign_in p.ahead
-
-  -- the place behind the sign
-  pub place_unsigned : {before signs : ℕ} {sign : Sign} → Place text (signed_in text) before → sign ≡ sign_in (signed_in text) → signs ≡ sign_length sign
-      → Place text (unsigned_in text) (before + signs)
-  unfolding unsigned_in
-  place_unsigned p signed long = place_next p (long ∙ ap sign_length signed) (sign_within (signed_in text))
-
-  -- the numeral there
-  pub numeral_there : {start : ℕ} {n : Numeral} → Place text (unsigned_in text) start → NumeralFound (drop start text) n
-      → NumeralFound (unsigned_in text) n
-  numeral_there p r = rw p.ahead at r
-
-  -- the place behind it
-  pub place_end : {start : ℕ} {n : Numeral} → Place text (unsigned_in text) start → NumeralFound (unsigned_in text) n
-      → Place text (end_in text) (start + n.used)
-  unfolding end_in
-  place_end p r = place_next p r.spanned (numeral_within (unsigned_in text))
-
-  -- the blanks behind it are within the text
-  pub place_behind : {rest : List ℕ} {end behind : ℕ} → Place text rest end → behind ≡ blanks_in (drop end text) → end + behind ≤ length text
-  place_behind {rest} {end} p e = omega (arith, blanks_within (drop end text), length-drop end text, p.inside)
 
 -- The whole.
 
@@ -717,32 +656,56 @@ module _ (text : List ℕ) where
   unfolding convert_text
   convert_other other = rw (ne_eqb (legal_length text) (length text) other)
 
-  module _ {n : Numeral} (numeral : NumeralFound (unsigned_in text) n) where
+  module _ {before signs : ℕ} {sign : Sign} {n : Numeral} (first : before ≡ blanks_in text) (said : sign ≡ sign_in (onward before text))
+      (counted : signs ≡ sign_count sign) (found : NumeralFound (onward signs (onward before text)) n) where
+    -- the bytes behind the blanks
+    to_signed : onward before text ≡ signed_in text
+    unfolding signed_in
+    to_signed = take_rest text before ∙ ap (λ (n : ℕ). drop n text) first
+
+    -- the sign there
+    signed : sign ≡ sign_in (signed_in text)
+    signed = said ∙ ap sign_in to_signed
+
+    -- its length
+    sign_size : signs ≡ sign_length sign
+    sign_size = (signs_found (onward before text) said counted).0
+
+    -- the bytes behind the sign
+    to_unsigned : onward signs (onward before text) ≡ unsigned_in text
+    unfolding unsigned_in
+    to_unsigned =
+        let size : signs ≡ sign_length (sign_in (signed_in text)) = sign_size ∙ ap sign_length signed in
+        take_rest (onward before text) signs ∙ (λ i. drop (size i) (to_signed i))
+
+    -- the numeral there
+    numeral : NumeralFound (unsigned_in text) n
+    numeral = rw to_unsigned at found
+
     -- no digit was read
     pub read_none : n.count ≡ 0 → no_reading ≡ reading_in text
     unfolding parts_in unsigned_in signed_in
     read_none none = sym (reading_none (sym numeral.counted ∙ none))
 
     -- digits were read, and the parts make the text
-    pub read_some : {before signs behind : ℕ} {sign : Sign} {minus : Bool} {number : Answer Number}
+    pub read_some : {behind : ℕ} {minus : Bool} {number : Answer Number}
         → (n.count ≡ 0 → ⊥)
-        → before ≡ blanks_in text
-        → sign ≡ sign_in (signed_in text)
-        → signs ≡ sign_length sign
-        → behind ≡ blanks_in (end_in text)
+        → behind ≡ blanks_in (onward n.used (onward signs (onward before text)))
         → minus ≡ is_minus sign
         → number ≡ scaled_number 0 minus n.value n.up (exponent_limit + n.places)
         → ◌≡◌ {A = TextReading} (record { used = before + signs + n.used + behind; number = number }) (reading_in text)
     unfolding parts_in end_in unsigned_in signed_in text_value
-    read_some {before} {signs} {behind} {sign} {minus} {number} some first signed long last negative scaled =
+    read_some {behind} {minus} {number} some last negative scaled =
         let t = parts_in text in
         let digits : length (all_digits_of t.numeral) ≡ 0 → ⊥ = λ h. some (numeral.counted ∙ h) in
-        let signs-are : signs ≡ sign_length t.sign = long ∙ ap sign_length signed in
+        let to_end : onward n.used (onward signs (onward before text)) ≡ end_in text =
+        take_rest (onward signs (onward before text)) n.used ∙ (λ i. drop (numeral.spanned i) (to_unsigned i)) in
+        let signs-are : signs ≡ sign_length t.sign = sign_size ∙ ap sign_length signed in
         let minus_is : minus ≡ is_minus t.sign = negative ∙ ap is_minus signed in
         let down_is = ap (λ (k : ℕ). exponent_limit + k) numeral.placed in
         let value-is : number ≡ text_value t = scaled ∙ (λ i. scaled_number 0 (minus_is i) (numeral.valued i) (numeral.powered i) (down_is i)) in
         let size_is : before + signs + n.used + behind ≡ length (text_bytes t) =
-        omega (arith, text_length_lem t, first, signs-are, numeral.spanned, last) in
+        omega (arith, text_length_lem t, first, signs-are, numeral.spanned, last ∙ ap blanks_in to_end) in
         (λ i. record { used = size_is i; number = value-is i }) ∙ sym (reading_some digits)
 
 -- What an answer that is the reading of bytes says.

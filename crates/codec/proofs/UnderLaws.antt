@@ -8,25 +8,22 @@ use native.Mathlib.Omega.{arith}
 use native.Mathlib.Numerals.{add-one}
 use lib.Dec.{leb}
 use lib.ListN.{length, take, drop, get_or, drop_of_length-le}
-use lib.Seq.{length-take-le}
+use lib.Seq.{drop-cons}
 use borrow.Author.Tests.{leb-true, le-leb, lt-leb}
 use Rattle.decimal.specs.declared.image.Image.{Image}
 use Rattle.decimal.specs.declared.number.Number.{Number}
-use Rattle.decimal.specs.Answer.{done, refused, ◌then◌, pick}
+use Rattle.decimal.specs.Answer.{done, refused, ◌then◌, pick, mapped}
 use Rattle.decimal.specs.Image.{check_image}
 use Rattle.decimal.proofs.BoolLaws.{and_true}
 use Rattle.decimal.proofs.ImageLaws.{check_within, check_image_done}
 use Rattle.codec.specs.declared.contents.Contents.{Contents}
-use Rattle.codec.specs.declared.lists.Images.{Images}
-use Rattle.decimal.specs.declared.refusal.CheckAnswer.TheVariants as checks
-use Rattle.codec.specs.Lists.{filled, max_columns, no_image, image_list}
+use Rattle.codec.specs.Lists.{max_columns}
 use Rattle.codec.specs.Columns.{AllChecked, none, more}
 use Rattle.codec.specs.Contents.{Table, read_alone, contents_of, check_each, check_images}
 use Rattle.codec.specs.Packing.{pack_list, body_of, pack_under, packing_under, packing}
 use Rattle.codec.specs.Unpacking.{unpack_body, unpack_under, unpacking}
-use Rattle.codec.proofs.ListLaws.{default_free, filled_length, filled_at, filled_front, filled_take, taken_from}
 use Rattle.decimal.proofs.AnswerLaws.{never_done, then_done}
-use Rattle.codec.proofs.ContentsLaws.{Sound, alone_sound, ReadOk, alone_read}
+use Rattle.codec.proofs.ContentsLaws.{Sound, alone_sound, told_read}
 
 -- Which images a contents can have.
 
@@ -62,112 +59,41 @@ checks_checked ims h = go (leb 1 (length ims) && leb (length ims) max_columns) r
 
 module _ (ims : List Image) where
   -- 1 to 16 images are refused as the first of them that is
-  checks_each : 1 ≤ length ims → length ims ≤ max_columns → check_images ims ≡ check_each 0 ims
+  pub checks_each : 1 ≤ length ims → length ims ≤ max_columns → check_images ims ≡ check_each 0 ims
   unfolding check_images
   checks_each low high = rw (le-leb 1 (length ims) low, le-leb (length ims) max_columns high)
 
   -- no image
-  checks_none : length ims < 1 → check_images ims ≡ refused 10 0
+  pub checks_none : length ims < 1 → check_images ims ≡ refused 10 0
   unfolding check_images
   checks_none h = rw (lt-leb 1 (length ims) h)
 
   -- more than 16
-  checks_many : 1 ≤ length ims → max_columns < length ims → check_images ims ≡ refused 10 0
+  pub checks_many : max_columns < length ims → check_images ims ≡ refused 10 0
   unfolding check_images
-  checks_many low h = rw (le-leb 1 (length ims) low, lt-leb (length ims) max_columns h)
+  checks_many h = let low : 1 ≤ length ims = omega arith in rw (le-leb 1 (length ims) low, lt-leb (length ims) max_columns h)
 
 -- the images of a contents are not refused
 pub checked_checks : {ims : List Image} → AllChecked ims → 1 ≤ length ims → length ims ≤ max_columns → check_images ims ≡ done tt
 checked_checks {ims} all low high = checks_each ims low high ∙ checked_each all 0
 
--- The list that an array of images and their count stand for.
+-- Checking images from the left.
 
--- it has as many images as the count says
-pub image_count : (images : Images) → length (image_list images) ≡ images.count
-unfolding image_list
-image_count images = filled_length no_image images.count images.values
+module _ (ims : List Image) (k : ℕ) (d : Image) (here : k < length ims) where
+  -- behind an image that is not refused the rest decides
+  pub each_turn : {im : Image} → check_image k (get_or ims k d) ≡ done im → check_each k (drop k ims) ≡ check_each (k + 1) (drop (k + 1) ims)
+  unfolding check_each ◌then◌
+  each_turn h = ap (check_each k) (drop-cons ims k d here) ∙ rw h (ap (λ (i : ℕ). check_each i (drop i ims)) (sym (add-one k)))
 
--- and they are the array's first
-pub image_list_lem : (images : Images) → images.count ≤ length images.values → image_list images ≡ take images.count images.values
-unfolding image_list
-image_list_lem images h = filled_take no_image images.count images.values h
+  -- an image that is refused decides
+  pub each_refused : {number place : ℕ} → check_image k (get_or ims k d) ≡ refused number place → check_each k (drop k ims) ≡ refused number place
+  unfolding check_each ◌then◌
+  each_refused h = ap (check_each k) (drop-cons ims k d here) ∙ rw h
 
--- each in its place
-pub image_at :
-    (images : Images) (i : ℕ) (d : Image)
-    → i < images.count
-    → i < length images.values
-    → get_or images.values i d ≡ get_or (image_list images) i no_image
-unfolding image_list
-image_at images i d here long =
-    default_free images.values i d no_image long ∙ sym (filled_at no_image images.count images.values i no_image here)
-
--- the code's images are those of the contents that was read
-pub told_images :
-    (table : Table) → length table.images ≤ max_columns → {r : Contents} → r ≡ contents_of (done table) → image_list r.images ≡ table.images
-unfolding contents_of
-told_images table few {r} h =
-    let ims : List Image = table.images in
-    ap (λ (x : Contents). image_list x.images) h
-    ∙ image_list_lem (record { values = filled max_columns no_image ims; count = length ims }) (omega (arith, filled_length no_image max_columns ims))
-    ∙ filled_front no_image max_columns ims few
-
--- Checking the images of an array from the left.
-
-module _ (images : Images) where
-  -- refused with 10 for no image
-  pub count_none : images.count < 1 → check_images (image_list images) ≡ refused 10 0
-  count_none h = checks_none (image_list images) (omega (arith, image_count images))
-
-  -- and for more than 16
-  pub count_many : max_columns < images.count → check_images (image_list images) ≡ refused 10 0
-  count_many h = checks_many (image_list images) (omega (arith, image_count images)) (omega (arith, image_count images))
-
-  module _ (long : images.count ≤ length images.values) where
-    -- else as the first image that is
-    pub count_each : 1 ≤ images.count → images.count ≤ max_columns → check_images (image_list images) ≡ check_each 0 (take images.count images.values)
-    count_each low high =
-        checks_each (image_list images) (omega (arith, image_count images)) (omega (arith, image_count images))
-        ∙ ap (check_each 0) (image_list_lem images long)
-
-    module _ (k : ℕ) (d : Image) (here : k < images.count) where
-      -- behind an image that is not refused the rest decides
-      pub each_turn :
-          {im : Image}
-          → check_image k (get_or images.values k d) ≡ done im
-          → check_each k (drop k (take images.count images.values)) ≡ check_each (k + 1) (drop (k + 1) (take images.count images.values))
-      unfolding check_each ◌then◌
-      each_turn h =
-          ap (check_each k) (taken_from d images.count images.values k here long)
-          ∙ rw h
-          (ap (λ (i : ℕ). check_each i (drop i (take images.count images.values))) (sym (add-one k)))
-
-      -- an image that is refused decides
-      pub each_refused :
-          {number place : ℕ}
-          → check_image k (get_or images.values k d) ≡ refused number place
-          → check_each k (drop k (take images.count images.values)) ≡ refused number place
-      unfolding check_each ◌then◌
-      each_refused h = ap (check_each k) (taken_from d images.count images.values k here long) ∙ rw h
-
-    -- behind the last image nothing is refused
-    pub each_end : (k : ℕ) → images.count ≤ k → check_each k (drop k (take images.count images.values)) ≡ done tt
-    unfolding check_each
-    each_end k h =
-        ap (check_each k) (drop_of_length-le (take images.count images.values) {i = k} (omega (arith, length-take-le images.count images.values long)))
-
--- what an array of images that are not refused is
-pub record Ready (images : Images) : Type 0 where
-  pub few : images.count ≤ max_columns
-  pub listed : image_list images ≡ take images.count images.values
-  pub all : AllChecked (take images.count images.values)
-
-pub images_ready : (images : Images) → length images.values ≡ max_columns → check_images (image_list images) ≡ done tt → Ready images
-images_ready images array good =
-    let s = checks_checked (image_list images) good in
-    let few : images.count ≤ max_columns = omega (arith, image_count images, s.high) in
-    let listed : image_list images ≡ take images.count images.values = image_list_lem images (omega arith) in
-    record { few = few; listed = listed; all = subst AllChecked listed s.all }
+-- behind the last image nothing is refused
+pub each_end : (ims : List Image) (k : ℕ) → length ims ≤ k → check_each k (drop k ims) ≡ done tt
+unfolding check_each
+each_end ims k h = ap (check_each k) (drop_of_length-le ims {i = k} h)
 
 -- Published: under images that a contents can have, packing and reading back are those under a contents.
 
@@ -199,19 +125,15 @@ pub unpacking_same :
 unfolding unpacking ◌then◌
 unpacking_same contents body {table} h = rw (h, unpack_under_checked table.images body (alone_checks contents h))
 
-module _ (contents : List ℕ) (r : Contents) (told : r ≡ contents_of (read_alone contents)) (reads : r.answer ≡ checks.Fine) where
-  -- the code's images of a contents that was read are its own
-  pub lent_images : (ok : ReadOk contents r) → image_list r.images ≡ ok.table.images
-  lent_images ok = told_images ok.table (alone_sound contents ok.reads).high (told ∙ ap contents_of ok.reads)
-
-  -- so the code packs under the contents
-  pub packing_lent : (ns : List Number) (room : ℕ) → packing contents ns room ≡ packing_under (image_list r.images) ns room
+module _ (contents : List ℕ) {r : Contents} (told : done r ≡ mapped contents_of (read_alone contents)) where
+  -- so the code packs under the contents that it read
+  pub packing_lent : (ns : List Number) (room : ℕ) → packing contents ns room ≡ packing_under r.images.items ns room
   packing_lent ns room =
-      let ok = alone_read contents r told reads in
-      packing_same contents ns room ok.reads ∙ ap (λ (ims : List Image). packing_under ims ns room) (sym (lent_images ok))
+      let t = told_read (read_alone contents) told in
+      packing_same contents ns room t.reads ∙ ap (λ (ims : List Image). packing_under ims ns room) (sym t.images)
 
   -- and reads back under it
-  pub unpacking_lent : (body : List ℕ) → unpacking contents body ≡ unpack_under (image_list r.images) body
+  pub unpacking_lent : (body : List ℕ) → unpacking contents body ≡ unpack_under r.images.items body
   unpacking_lent body =
-      let ok = alone_read contents r told reads in
-      unpacking_same contents body ok.reads ∙ ap (λ (ims : List Image). unpack_under ims body) (sym (lent_images ok))
+      let t = told_read (read_alone contents) told in
+      unpacking_same contents body t.reads ∙ ap (λ (ims : List Image). unpack_under ims body) (sym t.images)

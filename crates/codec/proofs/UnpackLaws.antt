@@ -10,34 +10,33 @@ use native.Mathlib.Omega.{arith}
 use borrow.Author.Tests.{lt-ltb, le-ltb, ltb-true, le-leb, lt-leb, eq-eqb, ne_eqb}
 use lib.Arith.{digits_div, digits_mod}
 use lib.Dec.{ltb, leb, eqb}
-use lib.ListN.{length, take, drop, get_or, set, length-append, length-drop, take-append-drop, drop_of_length-le}
+use lib.ListN.{length, take, drop, get_or, length-append, length-drop, take-append-drop, drop_of_length-le}
 use lib.Seq.{drop-cons, drop-drop, length-take-le, append_snoc}
+use Rattle.std.specs.Prelude.{Result, Ok, Err}
+use Rattle.std.specs.Result.{result_or}
 use Rattle.decimal.specs.declared.image.Sign.{Sign}
 use Rattle.decimal.specs.declared.image.Sign.TheVariants.{Unsigned, Plus, Minus}
 use Rattle.decimal.specs.declared.image.Image.{Image}
 use Rattle.decimal.specs.declared.number.Number.{Number}
+use Rattle.decimal.specs.declared.refusal.Reason.TheVariants.{BadHalf}
 use Rattle.decimal.specs.declared.refusal.Refusal.{Refusal}
-use Rattle.decimal.specs.Answer.{Answer, done, refused, ◌then◌, pick}
+use Rattle.decimal.specs.Answer.{Answer, done, refused, ◌then◌, pick, meaning, mapped}
 use Rattle.decimal.specs.Digits.{value_of, Digits}
 use Rattle.decimal.specs.Image.{hashes}
-use Rattle.decimal.specs.Number.{exponent_limit, zero_number, scaled_number}
+use Rattle.decimal.specs.Number.{exponent_limit, scaled_number}
 use Rattle.decimal.specs.Truncation.{number_of}
 use Rattle.decimal.proofs.BoolLaws.{and_true, zero_or_not}
 use Rattle.decimal.proofs.DigitLaws.{le_or_lt, value_append, value_below}
 use Rattle.decimal.proofs.PowerLaws.{pow10_suc, pow10_mono, times_ten}
 use Rattle.decimal.proofs.AnswerLaws.{then_same}
-use Rattle.decimal.specs.declared.refusal.CheckAnswer.TheVariants as checks
-use Rattle.codec.specs.declared.lists.Images.{Images}
-use Rattle.codec.specs.declared.unpacking.Unpacked.{Unpacked}
-use Rattle.codec.specs.Lists.{filled, any_of, max_columns, no_image, image_list}
+use Rattle.codec.specs.Lists.{any_of}
 use Rattle.codec.specs.Columns.{sign_count, exponent_count, half_count, pad_count, column_size, body_size, Checked, AllChecked}
 use Rattle.codec.specs.Contents.{read_alone, check_images}
-use Rattle.codec.proofs.ListLaws.{filled_at, filled_front, filled_set}
-use Rattle.codec.proofs.ContentsLaws.{column_halves_lem, column_few, checked_at}
-use Rattle.codec.proofs.UnderLaws.{checks_checked, image_count, unpack_under_checked}
+use Rattle.codec.proofs.ContentsLaws.{column_halves_lem, column_few}
+use Rattle.codec.proofs.UnderLaws.{unpack_under_checked}
 use Rattle.codec.specs.Halves.{halves_of}
 use Rattle.codec.specs.Worths.{worth_of}
-use Rattle.codec.specs.Unpacking.{all_digits, all_zero, sign_part, digit_part, exponent_part, pad_part, minus_bit, below_bit, said_by, breaks_rules, as_half, parts_number, halves_number, unpack_column, unpack_columns, unpack_body, unpack_under, unpacking, unpacked_of, read_on, first_half, unpadded_number, run_number, run_limit}
+use Rattle.codec.specs.Unpacking.{all_digits, all_zero, sign_part, digit_part, exponent_part, pad_part, minus_bit, below_bit, said_by, breaks_rules, as_half, parts_number, halves_number, unpack_column, unpack_columns, unpack_body, unpack_under, unpacking, read_on, first_half, unpadded_number, run_number, run_limit}
 
 -- Reading digits on.
 
@@ -71,15 +70,12 @@ two_bad h l v hs e = go (ltb h 10) (ltb l 10) refl refl
 
 -- a column's bytes are read up to a place: the value so far, continued by the halves that are left, is the whole
 pub record ReadingRun (bytes : List ℕ) (whole : Answer ℕ) (value i : ℕ) : Type 0 where
-  pub inside : i ≤ length bytes
   pub small : value < 10 ^ suc (i + i)
   pub rest : read_on value (halves_of (drop i bytes)) ≡ whole
 
 -- at the start
-pub run_starts :
-    (bytes : List ℕ) (start from : ℕ) → from ≤ length bytes → start < 10 → ReadingRun bytes (read_on start (halves_of (drop from bytes))) start from
-run_starts bytes start from inside digit =
-    record { inside = inside; small = omega (arith, pow10_mono {i = 1} {j = suc (from + from)} (omega arith)); rest = refl }
+pub run_starts : (bytes : List ℕ) (start : ℕ) → start < 10 → ReadingRun bytes (read_on start (halves_of bytes)) start 0
+run_starts bytes start digit = record { small = omega arith; rest = refl }
 
 module _ {bytes : List ℕ} {whole : Answer ℕ} {value i w : ℕ} (r : ReadingRun bytes whole value i) (more : i < length bytes)
     (worth : w ≡ worth_of (get_or bytes i 0)) where
@@ -93,7 +89,6 @@ module _ {bytes : List ℕ} {whole : Answer ℕ} {value i w : ℕ} (r : ReadingR
       let power : 10 ^ suc (i + 1 + (i + 1)) ≡ 10 * (10 * 10 ^ suc (i + i)) =
       ap (λ (n : ℕ). 10 ^ n) count ∙ pow10_suc (suc (suc (i + i))) ∙ ap (λ (n : ℕ). 10 * n) (pow10_suc (suc (i + i))) in
       record {
-        inside = omega arith;
         small = omega (arith, r.small, two.1);
         rest = rw (add-one i) (sym two.0 ∙ sym (ap (λ (l : List ℕ). read_on value (halves_of l)) (drop-cons bytes i 0 more)) ∙ r.rest);
       }
@@ -445,6 +440,14 @@ module _ (im : Image) (sign whole size : ℕ) where
 
 -- The number, in the code's order.
 
+-- whatever a number is refused with, the code says 7 and the column
+pub half_or :
+    (column : ℕ) (r : Result Number Refusal)
+    → meaning (result_or r (Err (record { reason = BadHalf; place = column }))) ≡ as_half column (meaning r)
+unfolding as_half
+half_or column (Ok n) = refl
+half_or column (Err e) = refl
+
 module _ (column : ℕ) (im : Image) (sign : ℕ) where
   -- parts that break a rule
   pub parts_broken : (whole size : ℕ) → breaks_rules im sign whole size ≡ true → parts_number column im sign whole size ≡ refused 7 column
@@ -488,31 +491,6 @@ module _ (column : ℕ) (im : Image) (sign : ℕ) where
   unfolding run_number
   run_other value odd n = rw (ne_eqb (pad_count im) 0 odd, ne_eqb (value % 10) 0 n)
 
--- The images of a list that is not refused.
-
-module _ (images : Images) (good : check_images (image_list images) ≡ done tt) where
-  -- the array has room for them
-  pub images_few : images.count ≤ max_columns
-  images_few = omega (arith, image_count images, (checks_checked (image_list images) good).high)
-
-  -- each has 1 to 13 # signs
-  pub images_checked : AllChecked (image_list images)
-  images_checked = (checks_checked (image_list images) good).all
-
-  module _ (column : ℕ) (here : column < images.count) where
-    -- the list has the next one
-    pub image_further : column < length (image_list images)
-    image_further = omega (arith, image_count images)
-
-    -- which the array has in its place
-    pub image_picked : get_or images.values column no_image ≡ get_or (image_list images) column no_image
-    unfolding image_list
-    image_picked = sym (filled_at no_image images.count images.values column no_image here)
-
-    -- its count of # signs is within the limits
-    pub image_checked : Checked (get_or images.values column no_image)
-    image_checked = rw image_picked (checked_at images_checked column image_further)
-
 -- The columns, from the left.
 
 -- one number more before those that follow
@@ -524,32 +502,30 @@ unfolding ◌then◌
 then_twice (done rest) ns n = ap {B = Answer (List Number)} done (sym (append_snoc ns n rest))
 then_twice (refused number place) ns n = refl
 
--- so many columns are read: their numbers are in the array, and with those of the columns that are left they are the whole
-pub record Unpacking (ims : List Image) (body : List ℕ) (values : List Number) (start column : ℕ) : Type 0 where
-  pub numbers : List Number
+-- so many columns are read: with the numbers of the columns that are left theirs are the whole
+pub record Unpacking (ims : List Image) (body : List ℕ) (numbers : List Number) (start column : ℕ) : Type 0 where
   pub counted : length numbers ≡ column
-  pub stored : values ≡ filled max_columns zero_number numbers
-  pub inside : column ≤ length ims
   pub left : start + body_size (drop column ims) ≡ length body
   pub rest : unpack_columns 0 ims body ≡ (unpack_columns column (drop column ims) (drop start body) then λ (ns : List Number). done (numbers ++ ns))
 
 -- before the first column
-pub columns_start : (ims : List Image) (body : List ℕ) → length body ≡ body_size ims → Unpacking ims body (filled max_columns zero_number []) 0 0
+pub columns_start : (ims : List Image) (body : List ℕ) → length body ≡ body_size ims → Unpacking ims body [] 0 0
 columns_start ims body sized =
     record {
-      numbers = [];
       counted = refl;
-      stored = refl;
-      inside = omega arith;
       left = omega arith;
       rest = sym (then_same (unpack_columns 0 ims body));
     }
 
-module _ {ims : List Image} {body : List ℕ} {values : List Number} {start column : ℕ} {im : Image} (u : Unpacking ims body values start column)
-    (more : column < length ims) (image : im ≡ get_or ims column no_image) where
+module _ {ims : List Image} {body : List ℕ} {numbers : List Number} {start column : ℕ} (u : Unpacking ims body numbers start column)
+    (d : Image) (more : column < length ims) where
+  -- the next column's image
+  abbrev im : Image
+  im = get_or ims column d
+
   -- the next column stands before those that are left
   next_column : drop column ims ≡ im ∷ drop (suc column) ims
-  next_column = rw image (drop-cons ims column no_image more)
+  next_column = drop-cons ims column d more
 
   -- its size is part of what is left
   columns_left : body_size (drop column ims) ≡ column_size im + body_size (drop (suc column) ims)
@@ -576,6 +552,12 @@ module _ {ims : List Image} {body : List ℕ} {values : List Number} {start colu
         let length_same : start + size - start ≡ column_size im = omega arith in
         ap (λ (k : ℕ). unpack_column column im (take k (drop start body))) length_same
 
+    -- it is of the column's size
+    pub column_part : length (take (start + size - start) (drop start body)) ≡ column_size im
+    column_part =
+        let inside = column_inside in
+        length-take-le (start + size - start) (drop start body) (omega (arith, length-drop start body)) ∙ omega arith
+
     -- a column that is refused
     pub columns_refused :
         {number place : ℕ}
@@ -586,48 +568,31 @@ module _ {ims : List Image} {body : List ℕ} {values : List Number} {start colu
 
     -- a column that is read
     pub columns_turn :
-        {n : Number}
-        → column < max_columns
+        {n : Number} {after : List Number}
         → unpack_column column im (take (start + size - start) (drop start body)) ≡ done n
-        → Unpacking ims body (set values column n) (start + size) (column + 1)
+        → after ≡ numbers ++ (n ∷ [])
+        → Unpacking ims body after (start + size) (column + 1)
     unfolding ◌then◌
-    columns_turn {n} room h =
-        rw sized
+    columns_turn {n} h pushed =
+        rw (sized, pushed)
         (record {
-          numbers = u.numbers ++ (n ∷ []);
-          counted = omega (arith, length-append u.numbers (n ∷ []), u.counted);
-          stored = rw (u.stored, ← u.counted) (filled_set zero_number max_columns u.numbers n (omega (arith, u.counted)));
-          inside = omega arith;
+          counted = omega (arith, length-append numbers (n ∷ []), u.counted);
           left = rw (add-one column) (omega (arith, columns_left, u.left));
           rest =
               u.rest
               ∙ rw (columns_rest, sym same_part ∙ h, add-one column)
-              (then_twice (unpack_columns (suc column) (drop (suc column) ims) (drop (start + column_size im) body)) u.numbers n);
+              (then_twice (unpack_columns (suc column) (drop (suc column) ims) (drop (start + column_size im) body)) numbers n);
         })
 
 -- behind the last column
 pub columns_end :
-    {ims : List Image} {body : List ℕ} {values : List Number} {start column : ℕ}
-    (u : Unpacking ims body values start column)
+    {ims : List Image} {body : List ℕ} {numbers : List Number} {start column : ℕ}
+    → Unpacking ims body numbers start column
     → length ims ≤ column
-    → unpack_columns 0 ims body ≡ done u.numbers
+    → unpack_columns 0 ims body ≡ done numbers
 unfolding unpack_columns ◌then◌
-columns_end {ims} {body} {values} {start} {column} u h =
-    u.rest ∙ rw (drop_of_length-le ims h) (ap {B = Answer (List Number)} done (append-nil u.numbers))
-
--- the code's answer behind the last column
-pub columns_answer :
-    {ims : List Image} {body : List ℕ} {values : List Number} {start column count : ℕ}
-    → Unpacking ims body values start column
-    → column ≡ length ims
-    → count ≡ length ims
-    → ◌≡◌ {A = Unpacked} (record { answer = checks.Fine; numbers = record { values = values; count = count } }) (unpacked_of (unpack_columns 0 ims body))
-unfolding unpacked_of
-columns_answer {ims} {body} {values} {start} {column} {count} u all counts =
-    let many : count ≡ length u.numbers = omega (arith, u.counted) in
-    let whole : ◌≡◌ {A = Unpacked} (record { answer = checks.Fine; numbers = record { values = values; count = count } }) (unpacked_of (done u.numbers)) =
-    λ i. record { answer = checks.Fine; numbers = record { values = u.stored i; count = many i } } in
-    whole ∙ sym (ap unpacked_of (columns_end u (omega arith)))
+columns_end {ims} {body} {numbers} u h =
+    u.rest ∙ rw (drop_of_length-le ims h) (ap {B = Answer (List Number)} done (append-nil numbers))
 
 -- A body under a contents, and under images.
 
@@ -653,54 +618,3 @@ module _ (ims : List Image) (body : List ℕ) where
     pub under_columns : length body ≡ body_size ims → unpack_under ims body ≡ unpack_columns 0 ims body
     unfolding unpack_body
     under_columns same = unpack_under_checked ims body good ∙ rw (eq-eqb (length body) (body_size ims) same)
-
--- What the code's answer tells of a body.
-
--- it is refused
-pub unpack_refused :
-    (a : Answer (List Number)) {u : Unpacked} {refusal : Refusal}
-    → u ≡ unpacked_of a
-    → u.answer ≡ checks.Refused refusal
-    → a ≡ refused refusal.number refusal.place
-unfolding unpacked_of
-unpack_refused (done ns) {u} {refusal} h e =
-    let wrong : checks.Refused refusal ≡ checks.Fine = sym e ∙ ap (λ (k : Unpacked). k.answer) h in
-    let z : ◌≡◌ {A = ℕ} 0 1 = cc in
-    absurd (omega arith)
-unpack_refused (refused x y) {u} {refusal} h e =
-    let same : checks.Refused refusal ≡ checks.Refused (record { number = x; place = y }) =
-    sym e ∙ ap (λ (k : Unpacked). k.answer) h in
-    let told : refusal ≡ record { number = x; place = y } = cc in
-    ap (λ (k : Refusal). refused k.number k.place) (sym told)
-
--- or it is read
-pub unpack_read :
-    (a : Answer (List Number)) {u : Unpacked} → u ≡ unpacked_of a → u.answer ≡ checks.Fine → (ns : List Number) × (a ≡ done ns)
-unfolding unpacked_of
-unpack_read (done ns) h e = (ns, refl)
-unpack_read (refused x y) h e =
-    let wrong : checks.Fine ≡ checks.Refused (record { number = x; place = y }) = sym e ∙ ap (λ (k : Unpacked). k.answer) h in
-    let z : ◌≡◌ {A = ℕ} 0 1 = cc in
-    absurd (omega arith)
-
--- and its numbers stand at the front of the array
-pub unpack_values :
-    (a : Answer (List Number)) {u : Unpacked} {ns : List Number}
-    → u ≡ unpacked_of a
-    → a ≡ done ns
-    → length ns ≤ max_columns
-    → take (length ns) u.numbers.values ≡ ns
-unfolding unpacked_of
-unpack_values a {u} {ns} h e few =
-    ap (λ (k : Unpacked). take (length ns) k.numbers.values) (h ∙ ap unpacked_of e) ∙ filled_front zero_number max_columns ns few
-
--- each in its place
-pub unpack_at :
-    (a : Answer (List Number)) {u : Unpacked} {ns : List Number} (i : ℕ) (d : Number)
-    → u ≡ unpacked_of a
-    → a ≡ done ns
-    → i < max_columns
-    → get_or u.numbers.values i d ≡ get_or ns i zero_number
-unfolding unpacked_of
-unpack_at a {u} {ns} i d h e l =
-    ap (λ (k : Unpacked). get_or k.numbers.values i d) (h ∙ ap unpacked_of e) ∙ filled_at zero_number max_columns ns i d l

@@ -9,20 +9,17 @@ use native.Mathlib.Numerals.{add-one}
 use native.Mathlib.Omega.{arith}
 use borrow.Author.Tests.{eq-eqb, ne_eqb}
 use lib.Dec.{eqb}
-use lib.ListN.{length, drop, get_or, set, length-append, length-drop, drop_of_length-le}
+use lib.ListN.{length, drop, get_or, length-append, length-drop, drop_of_length-le}
 use lib.Seq.{drop-cons, drop-drop}
 use Rattle.decimal.specs.declared.number.Number.{Number}
-use Rattle.decimal.specs.Answer.{done, refused, pick}
-use Rattle.decimal.specs.Number.{zero_number}
+use Rattle.decimal.specs.Answer.{Answer, done, refused, pick}
 use Rattle.decimal.proofs.BoolLaws.{zero_or_not}
-use Rattle.codec.specs.declared.walking.WalkAnswer.{WalkAnswer}
-use Rattle.codec.specs.declared.walking.WalkAnswer.TheVariants as gives
-use Rattle.codec.specs.declared.walking.Walked.{Walked}
-use Rattle.codec.specs.Lists.{filled, max_columns}
+use Rattle.codec.specs.declared.walking.Stop.{Stop}
+use Rattle.codec.specs.declared.walking.Stop.TheVariants as gives
+use Rattle.codec.specs.Lists.{max_columns}
 use Rattle.codec.specs.Alpha.{blank_byte}
 use Rattle.codec.specs.Text.{all_digits_of, blanks_in, parts_in, no_reading, reading_in, legal_length}
-use Rattle.codec.specs.Walking.{bytes_before, number_place, Walk, stop_before, stopped, with_number, numbers_in, walking, walked_of}
-use Rattle.codec.proofs.ListLaws.{filled_set}
+use Rattle.codec.specs.Walking.{bytes_before, number_place, Walk, stop_before, stopped, with_number, numbers_in, walking}
 use Rattle.codec.proofs.TextLaws.{legal_none, legal_digits}
 use Rattle.codec.proofs.LongestTheorem.{longest, empty_length, empty_reading}
 
@@ -49,17 +46,14 @@ moved_fits text place p l =
 
 -- a blank is counted with those behind it
 blank_first : (b : ℕ) (bs : List ℕ) → eqb b blank_byte ≡ true → blanks_in (b ∷ bs) ≡ suc (blanks_in bs)
-unfolding blanks_in
 blank_first b bs e = rw e
 
 -- another byte is none
 blank_other : (b : ℕ) (bs : List ℕ) → eqb b blank_byte ≡ false → blanks_in (b ∷ bs) ≡ 0
-unfolding blanks_in
 blank_other b bs e = rw e
 
 -- behind the blanks stands none
 blanks_over : (bytes : List ℕ) → blanks_in (drop (blanks_in bytes) bytes) ≡ 0
-unfolding blanks_in
 blanks_over [] = refl
 blanks_over (b ∷ bs) = step (eqb b blank_byte) refl (blanks_over bs)
   where
@@ -83,7 +77,7 @@ begins_behind bytes none = legal_none (drop (blanks_in bytes) bytes) (ap length 
 -- where none begins behind the blanks, none begins among them
 before_over : (bytes : List ℕ) → legal_length (drop (blanks_in bytes) bytes) ≡ 0
     → bytes_before bytes ≡ blanks_in bytes + bytes_before (drop (blanks_in bytes) bytes)
-unfolding blanks_in bytes_before
+unfolding bytes_before
 before_over [] none = refl
 before_over (b ∷ bs) none = step (eqb b blank_byte) refl (before_over bs) none
   where
@@ -202,21 +196,19 @@ unfolding behind
 behind_next ns n w = rw (append_assoc ns (n ∷ []) w.numbers)
 
 -- nothing more behind numbers
-behind_stopped : (ns : List Number) (answer : WalkAnswer) (place : ℕ)
-    → walked_of (behind ns (stopped answer place))
-    ≡ record { answer = answer; numbers = record { values = filled max_columns zero_number ns; count = length ns }; place = place }
-unfolding walked_of behind stopped
+behind_stopped : (ns : List Number) (answer : Answer Stop) (place : ℕ) → behind ns (stopped answer place) ≡ record { answer = answer; numbers = ns; place = place }
+unfolding behind stopped
 behind_stopped ns answer place = rw (append-nil ns)
 
 module _ (index place : ℕ) (bytes : List ℕ) where
   -- no text number begins here
-  pub numbers_stop : (left : ℕ) → legal_length bytes ≡ 0 → numbers_in left index place bytes ≡ stopped (stop_before bytes) place
+  pub numbers_stop : (left : ℕ) → legal_length bytes ≡ 0 → numbers_in left index place bytes ≡ stopped (done (stop_before bytes)) place
   unfolding numbers_in
   numbers_stop zero none = refl
   numbers_stop (suc left) none = rw (eq-eqb (legal_length bytes) 0 none)
 
   -- there is no room
-  pub numbers_full : numbers_in 0 index place bytes ≡ stopped (stop_before bytes) place
+  pub numbers_full : numbers_in 0 index place bytes ≡ stopped (done (stop_before bytes)) place
   unfolding numbers_in
   numbers_full = refl
 
@@ -230,93 +222,80 @@ module _ (index place : ℕ) (bytes : List ℕ) where
 
     -- a number refused
     pub numbers_refused : {number at_place : ℕ} → (reading_in bytes).number ≡ refused number at_place
-        → numbers_in (suc left) index place bytes ≡ stopped (gives.Refused (record { number = number; place = index })) place
+        → numbers_in (suc left) index place bytes ≡ stopped (refused number index) place
     unfolding numbers_in with_number
     numbers_refused e = rw (ne_eqb (legal_length bytes) 0 some, e)
 
--- the numbers that are read stand in the array, and with those that are left they are the whole
-pub record Collecting (text : List ℕ) (from : ℕ) (values : List Number) (count place : ℕ) : Type 0 where
-  pub front : List Number
+-- the numbers that are read, and with those that are left they are the whole
+pub record Collecting (text : List ℕ) (from : ℕ) (front : List Number) (place : ℕ) : Type 0 where
   pub left : ℕ
-  pub room : left + count ≡ max_columns
-  pub many : length front ≡ count
-  pub held : values ≡ filled max_columns zero_number front
-  pub whole : walking text from ≡ behind front (numbers_in left count place (drop place text))
+  pub room : left + length front ≡ max_columns
+  pub whole : walking text from ≡ behind front (numbers_in left (length front) place (drop place text))
 
 module _ (text : List ℕ) (from : ℕ) where
   -- the start
-  pub collecting_starts : Collecting text from (filled max_columns zero_number []) 0 from
+  pub collecting_starts : Collecting text from [] from
   unfolding walking behind
-  collecting_starts = record { front = []; left = max_columns; room = refl; many = refl; held = refl; whole = refl }
+  collecting_starts = record { left = max_columns; room = refl; whole = refl }
 
-  module _ {values : List Number} {count place : ℕ} (r : Collecting text from values count place) where
+  module _ {front : List Number} {place : ℕ} (r : Collecting text from front place) where
     -- what is answered where no number more is read
-    answered : (answer : WalkAnswer) → numbers_in r.left count place (drop place text) ≡ stopped answer place
-        → ◌≡◌ {A = Walked} (record { answer = answer; numbers = record { values = values; count = count }; place = place })
-        (walked_of (walking text from))
-    answered answer e =
-        (λ i. record { answer = answer; numbers = record { values = r.held i; count = sym r.many i }; place = place })
-        ∙ sym (behind_stopped r.front answer place)
-        ∙ sym (ap walked_of (r.whole ∙ ap (behind r.front) e))
+    answered : (answer : Answer Stop) → numbers_in r.left (length front) place (drop place text) ≡ stopped answer place
+        → ◌≡◌ {A = Walk} (record { answer = answer; numbers = front; place = place }) (walking text from)
+    answered answer e = sym (r.whole ∙ ap (behind front) e ∙ behind_stopped front answer place)
 
     -- no text number begins here
-    pub collecting_stops : {answer : WalkAnswer} → legal_length (drop place text) ≡ 0 → answer ≡ stop_before (drop place text)
-        → ◌≡◌ {A = Walked} (record { answer = answer; numbers = record { values = values; count = count }; place = place })
-        (walked_of (walking text from))
-    collecting_stops {answer} none e =
-        answered answer (numbers_stop count place (drop place text) r.left none ∙ ap (λ (a : WalkAnswer). stopped a place) (sym e))
+    pub collecting_stops : {stop : Stop} → legal_length (drop place text) ≡ 0 → stop ≡ stop_before (drop place text)
+        → ◌≡◌ {A = Walk} (record { answer = done stop; numbers = front; place = place }) (walking text from)
+    collecting_stops {stop} none e =
+        answered (done stop) (numbers_stop (length front) place (drop place text) r.left none ∙ ap (λ (a : Stop). stopped (done a) place) (sym e))
 
-    -- the array is full
-    pub collecting_ends : {answer : WalkAnswer} → max_columns ≤ count → answer ≡ stop_before (drop place text)
-        → ◌≡◌ {A = Walked} (record { answer = answer; numbers = record { values = values; count = count }; place = place })
-        (walked_of (walking text from))
-    collecting_ends {answer} full e =
+    -- there is no room for one more
+    pub collecting_ends : {stop : Stop} → max_columns ≤ length front → stop ≡ stop_before (drop place text)
+        → ◌≡◌ {A = Walk} (record { answer = done stop; numbers = front; place = place }) (walking text from)
+    collecting_ends {stop} full e =
         let none : r.left ≡ 0 = omega (arith, r.room) in
-        answered answer
-        (ap (λ (n : ℕ). numbers_in n count place (drop place text)) none
-        ∙ numbers_full count place (drop place text)
-        ∙ ap (λ (a : WalkAnswer). stopped a place) (sym e))
+        answered (done stop)
+        (ap (λ (n : ℕ). numbers_in n (length front) place (drop place text)) none
+        ∙ numbers_full (length front) place (drop place text)
+        ∙ ap (λ (a : Stop). stopped (done a) place) (sym e))
 
-    module _ (more : count < max_columns) (some : legal_length (drop place text) ≡ 0 → ⊥) where
+    module _ (more : length front < max_columns) (some : legal_length (drop place text) ≡ 0 → ⊥) where
       -- there is room for one more
       one_left : r.left ≡ suc (r.left - 1)
       one_left = omega (arith, r.room)
 
       -- a number refused
-      pub collecting_refused : {number at_place : ℕ} → (reading_in (drop place text)).number ≡ refused number at_place
-          → ◌≡◌ {A = Walked}
-          (record {
-            answer = gives.Refused (record { number = number; place = count });
-            numbers = record { values = values; count = count };
-            place = place;
-          })
-          (walked_of (walking text from))
-      collecting_refused e =
-          answered _
-          (ap (λ (n : ℕ). numbers_in n count place (drop place text)) one_left
-          ∙ numbers_refused count place (drop place text) (r.left - 1) some e)
+      pub collecting_refused : {number at_place index : ℕ} → (reading_in (drop place text)).number ≡ refused number at_place → index ≡ length front
+          → ◌≡◌ {A = Walk} (record { answer = refused number index; numbers = front; place = place }) (walking text from)
+      collecting_refused {number} e many =
+          (λ i. record { answer = refused number (many i); numbers = front; place = place })
+          ∙ answered _
+          (ap (λ (n : ℕ). numbers_in n (length front) place (drop place text)) one_left
+          ∙ numbers_refused (length front) place (drop place text) (r.left - 1) some e)
 
       -- a number more
-      pub collecting_turns : {n : Number} {used : ℕ} → (reading_in (drop place text)).number ≡ done n → used ≡ legal_length (drop place text)
-          → Collecting text from (set values count n) (count + 1) (place + used)
-      collecting_turns {n} {used} e size =
-          let rest = numbers_in (r.left - 1) (count + 1) (place + used) (drop (place + used) text) in
+      pub collecting_turns : {n : Number} {used : ℕ} {after : List Number}
+          → (reading_in (drop place text)).number ≡ done n
+          → used ≡ legal_length (drop place text)
+          → after ≡ front ++ n ∷ []
+          → Collecting text from after (place + used)
+      collecting_turns {n} {used} {after} e size pushed =
+          let count = length front in
+          let many : suc count ≡ length (front ++ n ∷ []) = omega (arith, length-append front (n ∷ [])) in
+          let rest = numbers_in (r.left - 1) (length (front ++ n ∷ [])) (place + used) (drop (place + used) text) in
           let moved : numbers_in (r.left - 1) (suc count) (place + legal_length (drop place text))
           (drop (legal_length (drop place text)) (drop place text)) ≡ rest =
-          (λ i. numbers_in (r.left - 1) (sym (add-one count) i) (place + sym size i) (drop (sym size i) (drop place text)))
-          ∙ ap (numbers_in (r.left - 1) (count + 1) (place + used)) (drop-drop used place text) in
-          record {
-            front = r.front ++ n ∷ [];
+          (λ i. numbers_in (r.left - 1) (many i) (place + sym size i) (drop (sym size i) (drop place text)))
+          ∙ ap (numbers_in (r.left - 1) (length (front ++ n ∷ [])) (place + used)) (drop-drop used place text) in
+          rw pushed
+          (record {
             left = r.left - 1;
-            room = omega (arith, r.room);
-            many = length-append r.front (n ∷ []) ∙ omega (arith, r.many);
-            held =
-                (λ i. set (r.held i) (sym r.many i) n)
-                ∙ filled_set zero_number max_columns r.front n (omega (arith, r.many));
+            room = omega (arith, r.room, many);
             whole =
                 r.whole
-                ∙ ap (λ (m : ℕ). behind r.front (numbers_in m count place (drop place text))) one_left
-                ∙ ap (behind r.front) (numbers_number count place (drop place text) (r.left - 1) some e)
-                ∙ ap (λ (w : Walk). behind r.front (behind (n ∷ []) w)) moved
-                ∙ behind_next r.front n rest;
-          }
+                ∙ ap (λ (m : ℕ). behind front (numbers_in m count place (drop place text))) one_left
+                ∙ ap (behind front) (numbers_number count place (drop place text) (r.left - 1) some e)
+                ∙ ap (λ (w : Walk). behind front (behind (n ∷ []) w)) moved
+                ∙ behind_next front n rest;
+          })

@@ -130,13 +130,13 @@ module _ (z : List ℕ) (end : LineEnd z) where
   line_walks : (t : TextParts) → Legal t.numeral → t.behind ≡ 0 → {n : Number} → text_value t ≡ done n
       → {texts : List (List ℕ)} {ns : List Number} → AllRead texts ns → (left : ℕ) → length texts ≤ left → (index place : ℕ)
       → numbers_in (suc left) index place (text_bytes t ++ (blanked texts ++ z))
-      ≡ record { answer = stop_before z; numbers = n ∷ ns; place = place + (length (text_bytes t) + length (blanked texts)) }
+      ≡ record { answer = done (stop_before z); numbers = n ∷ ns; place = place + (length (text_bytes t) + length (blanked texts)) }
   unfolding blanked behind stopped times
   line_walks t legal last {n} value none left few index place =
       let size : place + length (text_bytes t) ≡ place + (length (text_bytes t) + 0) = omega arith in
       text_walks t legal value z (subst (λ (k : ℕ). Ends k z) (sym last) end.ends) left index place
       ∙ ap (behind (n ∷ [])) (numbers_stop (suc index) (place + length (text_bytes t)) z left end.no_number)
-      ∙ (λ i. record { answer = stop_before z; numbers = n ∷ []; place = size i })
+      ∙ (λ i. record { answer = done (stop_before z); numbers = n ∷ []; place = size i })
   line_walks t legal last {n} value (more u form behind-u value-u all) zero few index place = absurd (omega arith)
   line_walks t legal last {n} value (more {text} {texts} {n = m} {ns} u form behind-u value-u all) (suc left) few index place =
       let k = u.before in
@@ -165,16 +165,16 @@ module _ (z : List ℕ) (end : LineEnd z) where
       ∙ ap (behind (n ∷ []))
       (line_walks (bare u) form.legal behind-u (bare_value u ∙ value-u) all left (omega arith) (suc index)
       (place + length (text_bytes long)))
-      ∙ (λ i. record { answer = stop_before z; numbers = n ∷ (m ∷ ns); place = size i })
+      ∙ (λ i. record { answer = done (stop_before z); numbers = n ∷ (m ∷ ns); place = size i })
 
   -- so are texts parted by one blank each
   parted_walks : {texts : List (List ℕ)} {ns : List Number} → AllRead texts ns → length texts ≤ max_columns → (place : ℕ)
       → numbers_in max_columns 0 place (parted texts ++ z) ≡ record
-      { answer = stop_before z; numbers = ns; place = place + length (parted texts) }
+      { answer = done (stop_before z); numbers = ns; place = place + length (parted texts) }
   unfolding parted stopped
   parted_walks none few place =
       let size : place ≡ place + 0 = omega arith in
-      numbers_stop 0 place z max_columns end.no_number ∙ (λ i. record { answer = stop_before z; numbers = []; place = size i })
+      numbers_stop 0 place z max_columns end.no_number ∙ (λ i. record { answer = done (stop_before z); numbers = []; place = size i })
   parted_walks (more {text} {texts} {n} {ns} t form last value all) few place =
       let first = parted_blanked text texts in
       let size : place + (length (text_bytes t) + length (blanked texts)) ≡ place + length (parted (text ∷ texts)) =
@@ -183,7 +183,7 @@ module _ (z : List ℕ) (end : LineEnd z) where
       ∙ ap (numbers_in max_columns 0 place)
       (append_assoc text (blanked texts) z ∙ ap (λ (l : List ℕ). l ++ (blanked texts ++ z)) form.written)
       ∙ line_walks t form.legal last value all (max_columns - 1) (omega arith) 0 place
-      ∙ (λ i. record { answer = stop_before z; numbers = n ∷ ns; place = size i })
+      ∙ (λ i. record { answer = done (stop_before z); numbers = n ∷ ns; place = size i })
 
 -- the end of the bytes ends a line
 end_ends : LineEnd []
@@ -191,7 +191,7 @@ end_ends = record { ends = ends_last 0; no_number = empty_length }
 
 -- so does the byte behind it
 byte_ends : (others : List ℕ) → LineEnd (line_end ∷ others)
-unfolding times blanks_in sign_in sign_bytes digits_in point_in power_in numeral_in parts_in fraction_digits reading_in
+unfolding times sign_in sign_bytes digits_in point_in power_in numeral_in parts_in fraction_digits reading_in
 byte_ends others =
     record {
       ends = record { stops = stops_byte line_end others refl (λ e. omega (arith, e)); no_power = refl; no_blank = refl };
@@ -260,13 +260,13 @@ line_back ims ns {texts} h few =
       alone =
           ap (numbers_in max_columns 0 0) (sym (append-nil (parted texts)))
           ∙ parted_walks [] end_ends all.1 few 0
-          ∙ (λ i. record { answer = sym (stop_end [] 0 (omega arith)) i; numbers = all.0; place = size i });
+          ∙ (λ i. record { answer = done (sym (stop_end [] 0 (omega arith)) i); numbers = all.0; place = size i });
       within =
           λ text from others e.
           ap (numbers_in max_columns 0 from) e
           ∙ parted_walks (line_end ∷ others) (byte_ends others) all.1 few from
           ∙ (λ i. record {
-            answer = sym (stop_none (line_end ∷ others) 0 (omega arith) (byte_ends others).no_number) i;
+            answer = done (sym (stop_none (line_end ∷ others) 0 (omega arith) (byte_ends others).no_number) i);
             numbers = all.0;
             place = from + length (parted texts);
           });

@@ -1,13 +1,6 @@
 -- What the calls that write answer, and what they leave in a lent buffer.
 use Rattle.std.specs.Prelude.{ℕ, ◌+◌, List, [], ◌++◌, length, take, drop, ltb}
 use Rattle.decimal.specs.Answer.{Answer, done, refused, pick}
-use Rattle.codec.specs.declared.answers.WriteAnswer.{WriteAnswer}
-use Rattle.codec.specs.declared.answers.WriteAnswer.TheVariants as gives
-
--- each case of the code's answer, in document 01's numbers: the count of bytes written, or the refusal
-abbrev pub write_meaning : WriteAnswer → Answer ℕ
-write_meaning (gives.Written size) = done size
-write_meaning (gives.Refused r) = refused r.number r.place
 
 -- the length of what an answer gives
 unfoldable pub sized : Answer (List ℕ) → Answer ℕ

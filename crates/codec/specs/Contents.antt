@@ -1,13 +1,10 @@
 -- Document 01, Record file: the table of contents. A byte with the count of columns, then per column a length byte and the image.
 use Rattle.std.specs.Prelude.{ℕ, zero, suc, ◌+◌, ◌<◌, ◌≤◌, ◌≡◌, List, [], ◌∷◌, ◌++◌, ◌&&◌, length, take, drop, ltb, leb, eqb}
 use Rattle.decimal.specs.declared.image.Image.{Image}
-use Rattle.decimal.specs.declared.refusal.CheckAnswer.TheVariants as checks
 use Rattle.decimal.specs.Answer.{Answer, done, refused, ◌then◌, pick}
 use Rattle.decimal.specs.Image.{image_bytes, hashes, check_image, read_image}
 use Rattle.codec.specs.declared.contents.Contents.{Contents}
-use Rattle.codec.specs.declared.contents.ColumnAnswer.{ColumnAnswer}
-use Rattle.codec.specs.declared.contents.ColumnAnswer.TheVariants as reads
-use Rattle.codec.specs.Lists.{filled, max_columns, no_image}
+use Rattle.codec.specs.Lists.{max_columns}
 use Rattle.codec.specs.Columns.{body_size}
 
 -- What a contents is, and its bytes.
@@ -49,21 +46,6 @@ unfoldable pub column_length : List ℕ → ℕ
 column_length [] = 0
 column_length (n ∷ bytes) = suc n
 
--- a column of a contents: its image, and the place behind it
-pub record Column : Type 0 where
-  pub image : Image
-  pub next : ℕ
-
--- the column whose length byte stands at a place of bytes
-unfoldable pub column_at : ℕ → ℕ → List ℕ → Answer Column
-column_at column place bytes =
-    read_column column (drop place bytes) then λ im. done (record { image = im; next = place + column_length (drop place bytes) })
-
--- each case of the code's answer
-abbrev pub column_meaning : ColumnAnswer → Answer Column
-column_meaning (reads.Column image next) = done (record { image = image; next = next })
-column_meaning (reads.Refused r) = refused r.number r.place
-
 -- the images of so many columns, from the left
 unfoldable pub read_columns : ℕ → ℕ → List ℕ → Answer (List Image)
 read_columns zero column bytes = done []
@@ -102,19 +84,6 @@ check_each column (im ∷ ims) = check_image column im then λ _. check_each (su
 unfoldable pub check_images : List Image → Answer (Unit {0})
 check_images ims = pick (leb 1 (length ims) && leb (length ims) max_columns) (check_each 0 ims) (refused 10 0)
 
--- the code's answer, of each answer
-unfoldable pub contents_of : Answer Table → Contents
-contents_of (done table) =
-    record {
-      answer = checks.Fine;
-      images = record { values = filled max_columns no_image table.images; count = length table.images };
-      size = table.size;
-      body = body_size table.images;
-    }
-contents_of (refused number place) =
-    record {
-      answer = checks.Refused (record { number = number; place = place });
-      images = record { values = filled max_columns no_image []; count = 0 };
-      size = 0;
-      body = 0;
-    }
+-- the code's contents of a table
+abbrev pub contents_of : Table → Contents
+contents_of table = record { images = record { items = table.images }; size = table.size; body = body_size table.images }

@@ -7,7 +7,7 @@ use Rattle.decimal.specs.Digits.{value_of, leading_zeros}
 use Rattle.decimal.specs.Number.{exponent_limit, shifted_number, scaled_number}
 use Rattle.decimal.specs.Image.{minus_byte, point_byte, sign_bytes, times}
 use Rattle.codec.specs.Alpha.{blank_byte, exponent_byte, digit_bytes}
-use Rattle.codec.specs.Text.{fraction_digits, point_bytes, power_bytes, numeral_bytes, text_bytes, is_minus, power_value, text_value, blanks_in, digits_in, sign_in}
+use Rattle.codec.specs.Text.{fraction_digits, point_bytes, power_bytes, numeral_bytes, text_bytes, is_minus, power_value, text_value, digits_in, sign_in}
 use Rattle.codec.specs.Text.{point_in, power_of, power_in, numeral_in, parts_in, reading_in, TextNumber, read_text, convert_text}
 
 -- a number of plus sign, read with so many bytes
@@ -65,7 +65,7 @@ pub record KnownTexts : Type 0 where
 -- all of them hold
 pub known_texts : KnownTexts
 unfolding read_number torn remarked position large fourteen ◌then◌ value_of leading_zeros shifted_number scaled_number times sign_bytes digit_bytes
-    fraction_digits point_bytes power_bytes text_bytes is_minus power_value text_value blanks_in digits_in sign_in point_in power_of power_in parts_in numeral_bytes
+    fraction_digits point_bytes power_bytes text_bytes is_minus power_value text_value digits_in sign_in point_in power_of power_in parts_in numeral_bytes
     numeral_in reading_in read_text convert_text
 known_texts =
     record {

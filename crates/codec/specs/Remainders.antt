@@ -6,10 +6,9 @@ use Rattle.decimal.specs.declared.remainder.Remainder.{Remainder}
 use Rattle.decimal.specs.Answer.{Answer, done, refused, ◌then◌}
 use Rattle.decimal.specs.Number.{magnitude}
 use Rattle.decimal.specs.Truncation.{Truncated, packed_truncation}
-use Rattle.decimal.specs.Remainder.{zero_remainder, IsRemainder, cut_off}
-use Rattle.codec.specs.declared.remainders.Remainders.{Remainders}
+use Rattle.decimal.specs.Remainder.{IsRemainder, cut_off}
+use Rattle.codec.specs.declared.remainders.Packed.{Packed}
 use Rattle.codec.specs.Contents.{IsContents, read_alone}
-use Rattle.codec.specs.Lists.{filled, max_columns}
 use Rattle.codec.specs.Packing.{packing}
 use Rattle.codec.specs.Unpacking.{unpacking}
 
@@ -25,9 +24,12 @@ unfoldable pub packing_remainders : List ℕ → List Number → ℕ → Answer 
 packing_remainders contents ns room =
     packing contents ns room then λ _. (read_alone contents then λ table. cut_columns 0 table.images ns)
 
--- the code's array and count of a list: zero's remainder stands in every place behind the list's end
-unfoldable pub remainders_of : List Remainder → Remainders
-remainders_of rs = record { values = filled max_columns zero_remainder rs; count = length rs }
+-- what the code gives of a packing: how many bytes were written, and the remainders
+abbrev pub size_of : Packed → ℕ
+size_of packed = packed.size
+
+abbrev pub remainders_of : Packed → List Remainder
+remainders_of packed = packed.remainders.items
 
 -- Exactly which remainders packing gives: what is proved of the definitions above.
 
@@ -66,15 +68,3 @@ pub record RemaindersExactly (contents : List ℕ) (ns : List Number) (room : �
       → unpacking contents body ≡ done ts
       → packing_remainders contents ns room ≡ done rs
       → SumEach ns ts rs
-
--- What the code's helpers find.
-
--- how many columns were packed, by packing's answer
-abbrev pub packed_columns : Answer ℕ → ℕ → ℕ
-packed_columns (done size) count = count
-packed_columns (refused number place) count = 0
-
--- a remainder, and zero's where there is none
-abbrev pub cut_or_zero : Answer Remainder → Remainder
-cut_or_zero (done r) = r
-cut_or_zero (refused number place) = zero_remainder

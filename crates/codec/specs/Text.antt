@@ -3,15 +3,14 @@ use Rattle.std.specs.Prelude.{ℕ, zero, suc, ◌+◌, ◌-◌, ◌*◌, ◌^◌
 use Rattle.decimal.specs.declared.image.Sign.{Sign}
 use Rattle.decimal.specs.declared.image.Sign.TheVariants.{Unsigned, Plus, Minus}
 use Rattle.decimal.specs.declared.number.Number.{Number}
-use Rattle.decimal.specs.Answer.{Answer, done, refused, ◌then◌, pick}
+use Rattle.decimal.specs.Answer.{Answer, done, refused, ◌then◌, pick, meaning}
 use Rattle.decimal.specs.Digits.{precision, Digits, value_of}
-use Rattle.decimal.specs.Number.{exponent_limit, scaled_number, number_meaning}
+use Rattle.decimal.specs.Number.{exponent_limit, scaled_number}
 use Rattle.decimal.specs.Constructors.{IsScaled, ScaledOutside}
-use Rattle.decimal.specs.Image.{point_byte, sign_bytes, times, sign_of}
+use Rattle.decimal.specs.Image.{point_byte, sign_bytes, times, leading_run, sign_of}
 use Rattle.codec.specs.declared.text.Numeral.{Numeral}
 use Rattle.codec.specs.declared.text.Reading.{Reading}
-use Rattle.codec.specs.declared.text.TextAnswer.{TextAnswer}
-use Rattle.codec.specs.declared.text.TextAnswer.TheVariants as gives
+pub use Rattle.codec.specs.declared.text.TextNumber.{TextNumber}
 use Rattle.codec.specs.Alpha.{blank_byte, exponent_byte, zero_byte, digit_bytes}
 
 -- The form: blanks, an optional sign, a numeral, blanks. A numeral is 1 to 13 digits with at most one point before, among or after them,
@@ -113,9 +112,8 @@ pub record LongestForm (bytes : List ℕ) (size : ℕ) : Type 0 where
 -- Reading it: each part takes as many bytes as it can.
 
 -- how many blanks bytes begin with
-unfoldable pub blanks_in : List ℕ → ℕ
-blanks_in [] = 0
-blanks_in (b ∷ bs) = pick (eqb b blank_byte) (suc (blanks_in bs)) 0
+abbrev pub blanks_in : List ℕ → ℕ
+blanks_in bytes = leading_run blank_byte bytes
 
 abbrev pub is_digit : ℕ → Bool
 is_digit b = leb zero_byte b && ltb b (zero_byte + 10)
@@ -189,7 +187,7 @@ reading_in bytes = pick (eqb (length (all_digits_of (parts_in bytes).numeral)) 0
 
 -- the code's answer
 abbrev pub reading_meaning : Reading → TextReading
-reading_meaning r = record { used = r.used; number = number_meaning r.number }
+reading_meaning r = record { used = r.used; number = meaning r.number }
 
 -- the legal length: that of the longest beginning that has the form, 0 if none
 abbrev pub legal_length : List ℕ → ℕ
@@ -198,22 +196,12 @@ legal_length bytes = (reading_in bytes).used
 -- Document 02, (i): "Reading a text number now takes the longest legal beginning and gives the number and how many bytes it used. ..
 -- Refusal 8 is then given when the legal length is 0".
 
--- a number that was read, and how many bytes it used
-pub record TextNumber : Type 0 where
-  pub number : Number
-  pub used : ℕ
-
 -- a text number read: 8 where the legal length is 0, else the number of that beginning and its length, or 5 where e is outside its limits
 unfoldable pub read_text : List ℕ → Answer TextNumber
 read_text bytes =
     pick (eqb (legal_length bytes) 0)
     (refused 8 0)
     ((reading_in bytes).number then λ n. done (record { number = n; used = legal_length bytes }))
-
--- each case of the code's answer
-abbrev pub text_meaning : TextAnswer → Answer TextNumber
-text_meaning (gives.Number n used) = done (record { number = n; used = used })
-text_meaning (gives.Refused r) = refused r.number r.place
 
 -- What is read, apart from how: by the grammar, and by magnitudes. (The proofs' ReadingTheorem: `read_text` gives exactly this.)
 

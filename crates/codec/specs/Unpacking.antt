@@ -1,19 +1,15 @@
 -- Document 01, Packed bodies: reading back.
-use Rattle.std.specs.Prelude.{ℕ, zero, suc, ◌+◌, ◌-◌, ◌*◌, ◌/◌, ◌%◌, ◌^◌, List, [], ◌∷◌, Bool, true, not, ◌&&◌, length, take, drop, get_or, ltb, leb, eqb}
+use Rattle.std.specs.Prelude.{ℕ, zero, suc, ◌+◌, ◌-◌, ◌*◌, ◌/◌, ◌%◌, ◌^◌, List, [], ◌∷◌, Bool, true, not, Option, Some, None, ◌&&◌, length, take, drop, get_or, ltb, leb, eqb}
 use Rattle.decimal.specs.declared.image.Sign.{Sign}
 use Rattle.decimal.specs.declared.image.Sign.TheVariants.{Unsigned, Plus, Minus}
 use Rattle.decimal.specs.declared.image.Image.{Image}
-use Rattle.decimal.specs.declared.refusal.CheckAnswer.TheVariants as checks
 use Rattle.decimal.specs.declared.number.Number.{Number}
 use Rattle.decimal.specs.Answer.{Answer, done, refused, ◌then◌, pick}
 use Rattle.decimal.specs.Digits.{value_of}
-use Rattle.decimal.specs.Number.{exponent_limit, zero_number}
+use Rattle.decimal.specs.Number.{exponent_limit}
 use Rattle.decimal.specs.Image.{hashes}
 use Rattle.decimal.specs.Truncation.{Truncated, number_of}
-use Rattle.codec.specs.declared.unpacking.Unpacked.{Unpacked}
-use Rattle.codec.specs.Lists.{filled, any_of, max_columns}
-use Rattle.codec.specs.declared.unpacking.ColumnRun.{ColumnRun}
-use Rattle.codec.specs.declared.unpacking.ColumnRun.TheVariants as run
+use Rattle.codec.specs.Lists.{any_of}
 use Rattle.codec.specs.Columns.{sign_count, exponent_count, half_count, pad_count, column_size, body_size}
 use Rattle.codec.specs.Contents.{read_alone, check_images}
 use Rattle.codec.specs.Halves.{halves_of}
@@ -114,16 +110,6 @@ unpack_under ims body = check_images ims then λ _. unpack_body ims body
 unfoldable pub unpacking : List ℕ → List ℕ → Answer (List Number)
 unpacking contents body = read_alone contents then λ table. unpack_body table.images body
 
--- the code's answer, of each answer
-unfoldable pub unpacked_of : Answer (List Number) → Unpacked
-unpacked_of (done ns) =
-    record { answer = checks.Fine; numbers = record { values = filled max_columns zero_number ns; count = length ns } }
-unpacked_of (refused number place) =
-    record {
-      answer = checks.Refused (record { number = number; place = place });
-      numbers = record { values = filled max_columns zero_number []; count = 0 };
-    }
-
 -- What the code's helpers ask and find.
 
 -- a column's digits as a whole number stay below this: a column has at most 9 bytes
@@ -136,9 +122,9 @@ read_on start [] = done start
 read_on start (d ∷ ds) = pick (ltb d 10) (read_on (start * 10 + d) ds) (refused 7 0)
 
 -- each case of the code's run of digits
-abbrev pub run_meaning : ColumnRun → Answer ℕ
-run_meaning (run.Value value) = done value
-run_meaning run.Bad = refused 7 0
+abbrev pub run_meaning : Option ℕ → Answer ℕ
+run_meaning (Some value) = done value
+run_meaning None = refused 7 0
 
 -- the first half where there are sign halves, else 0
 unfoldable pub first_half : ℕ → List ℕ → ℕ

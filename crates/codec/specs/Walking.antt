@@ -1,13 +1,12 @@
 -- Document 01, Record file: "A text walker may be a small record that refers to the lent text". What it reads are text numbers.
 use Rattle.std.specs.Prelude.{ℕ, zero, suc, ◌+◌, ◌<◌, ◌≤◌, ◌≡◌, List, [], ◌∷◌, ◌++◌, length, drop, eqb}
 use Rattle.decimal.specs.declared.number.Number.{Number}
-use Rattle.decimal.specs.Answer.{Answer, done, refused, pick}
-use Rattle.decimal.specs.Number.{zero_number}
+use Rattle.decimal.specs.Answer.{Answer, done, refused, ◌then◌, pick, meaning}
 use Rattle.codec.specs.declared.walking.Walker.{Walker}
-use Rattle.codec.specs.declared.walking.WalkAnswer.{WalkAnswer}
-use Rattle.codec.specs.declared.walking.WalkAnswer.TheVariants as gives
+use Rattle.codec.specs.declared.walking.Stop.{Stop}
+use Rattle.codec.specs.declared.walking.Stop.TheVariants as gives
 use Rattle.codec.specs.declared.walking.Walked.{Walked}
-use Rattle.codec.specs.Lists.{filled, max_columns}
+use Rattle.codec.specs.Lists.{max_columns}
 use Rattle.codec.specs.Alpha.{parted}
 use Rattle.codec.specs.Text.{TextParts, LongestForm, text_value, reading_in, legal_length, Beginning, read_texts}
 
@@ -27,31 +26,31 @@ pub record FirstPlace (text : List ℕ) (from place : ℕ) : Type 0 where
   pub begins : place < length text → legal_length (drop place text) ≡ 0 → ⊥
   pub none_before : (p : ℕ) → from ≤ p → p < place → legal_length (drop p text) ≡ 0
 
--- the numbers that were read in order, and where and why reading stopped
+-- the numbers that were read in order, and where and why reading stopped: the refusal of a number, or what else
 pub record Walk : Type 0 where
-  pub answer : WalkAnswer
+  pub answer : Answer Stop
   pub numbers : List Number
   pub place : ℕ
 
 -- why reading stops before bytes: the end, no text number begins there, or one begins and there is no room for it
-unfoldable pub stop_before : List ℕ → WalkAnswer
+unfoldable pub stop_before : List ℕ → Stop
 stop_before bytes = pick (eqb (length bytes) 0) gives.End (pick (eqb (legal_length bytes) 0) gives.NoNumber gives.TooMany)
 
 -- no more numbers: reading stops at this place, for this reason
-unfoldable pub stopped : WalkAnswer → ℕ → Walk
+unfoldable pub stopped : Answer Stop → ℕ → Walk
 stopped answer place = record { answer = answer; numbers = []; place = place }
 
 -- a number, then those behind it; a refused number ends the reading at its own place, and its index is the refusal's place
 unfoldable pub with_number : ℕ → ℕ → Answer Number → Walk → Walk
 with_number index place (done n) rest = record { answer = rest.answer; numbers = n ∷ rest.numbers; place = rest.place }
-with_number index place (refused number _) rest = stopped (gives.Refused (record { number = number; place = index })) place
+with_number index place (refused number _) rest = stopped (refused number index) place
 
 -- at most so many numbers of bytes: the first has this index and begins at this place
 unfoldable pub numbers_in : ℕ → ℕ → ℕ → List ℕ → Walk
-numbers_in zero index place bytes = stopped (stop_before bytes) place
+numbers_in zero index place bytes = stopped (done (stop_before bytes)) place
 numbers_in (suc left) index place bytes =
     pick (eqb (legal_length bytes) 0)
-    (stopped (stop_before bytes) place)
+    (stopped (done (stop_before bytes)) place)
     (with_number index place (reading_in bytes).number
     (numbers_in left (suc index) (place + legal_length bytes) (drop (legal_length bytes) bytes)))
 
@@ -64,11 +63,14 @@ walking text from = numbers_in max_columns 0 from (drop from text)
 
 -- each case of the code's answer: nothing is refused where the text ends; 8 where no text number begins; a number is refused as its text is,
 -- with its index for the place; 10 where there are more numbers than a list can have
-abbrev pub walk_meaning : WalkAnswer → Answer (Unit {0})
-walk_meaning gives.End = done tt
-walk_meaning gives.NoNumber = refused 8 0
-walk_meaning (gives.Refused r) = refused r.number r.place
-walk_meaning gives.TooMany = refused 10 0
+abbrev pub stop_meaning : Stop → Answer (Unit {0})
+stop_meaning gives.End = done tt
+stop_meaning gives.NoNumber = refused 8 0
+stop_meaning gives.TooMany = refused 10 0
+
+abbrev pub walk_meaning : Answer Stop → Answer (Unit {0})
+walk_meaning (done stop) = stop_meaning stop
+walk_meaning (refused number place) = refused number place
 
 -- the longest beginning of bytes that has the form of a text number is so long, and its number is so
 pub record Foremost (bytes : List ℕ) (size : ℕ) (number : Answer Number) : Type 0 where
@@ -102,14 +104,9 @@ pub data Cut (text : List ℕ) : ℕ → ℕ → List Number → ℕ → Answer 
       → Cut text (suc index) (place + size) ns stop answer
       → Cut text index place (n ∷ ns) stop answer
 
--- the code's answer
-unfoldable pub walked_of : Walk → Walked
-walked_of w =
-    record {
-      answer = w.answer;
-      numbers = record { values = filled max_columns zero_number w.numbers; count = length w.numbers };
-      place = w.place;
-    }
+-- the walk that the code gives
+abbrev pub walk_of : Walked → Walk
+walk_of w = record { answer = meaning w.answer; numbers = w.numbers.items; place = w.place }
 
 -- The walker.
 
@@ -137,9 +134,9 @@ pub record LineBack (texts : List (List ℕ)) : Type 0 where
   -- each text converts to its number
   pub of_texts : read_texts texts ≡ done numbers
   -- walking a text that is the line gives these numbers, up to the end
-  pub alone : walking (parted texts) 0 ≡ record { answer = gives.End; numbers = numbers; place = length (parted texts) }
+  pub alone : walking (parted texts) 0 ≡ record { answer = done gives.End; numbers = numbers; place = length (parted texts) }
   -- so does walking a text that has the line from a place on, up to the byte behind it
   pub within :
       (text : List ℕ) (from : ℕ) (others : List ℕ)
       → drop from text ≡ parted texts ++ line_end ∷ others
-      → walking text from ≡ record { answer = gives.NoNumber; numbers = numbers; place = from + length (parted texts) }
+      → walking text from ≡ record { answer = done gives.NoNumber; numbers = numbers; place = from + length (parted texts) }

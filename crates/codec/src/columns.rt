@@ -1,10 +1,11 @@
-// The size of a column (document 01: Packed bodies).
-ghost use Rattle.std.specs.Prelude.{◌≡◌, ◌≤◌};
-ghost use Rattle.decimal.specs.Digits.{precision};
+// The size of a column, and the exponent that its direction and size say (document 01: Packed bodies).
+ghost use Rattle.std.specs.Prelude.{◌≡◌, ◌+◌, ◌-◌, ◌≤◌};
+ghost use Rattle.decimal.specs.Answer.{pick};
 ghost use Rattle.decimal.specs.Image.{hashes};
+ghost use Rattle.decimal.specs.Number.{exponent_limit};
 ghost use Rattle.codec.specs.Columns.{sign_count, exponent_count, half_count, column_size};
 
-use decimal::{Image, Sign};
+use decimal::{EXPONENT_LIMIT, Image, Sign};
 
 // The count of sign halves in a column.
 pub(crate) fn sign_count(sign: Sign) -> usize
@@ -24,6 +25,18 @@ pub(crate) fn exponent_count(exponential: bool) -> usize
     if exponential { 2 } else { 0 }
 }
 
+// An exponent of such a size, below zero or not, plus EXPONENT_LIMIT.
+pub(crate) fn signed_exponent(below: bool, size: usize) -> usize
+    requires { size ≤ exponent_limit }
+    ensures { result ≡ pick below (exponent_limit - size) (exponent_limit + size) }
+{
+    if below {
+        EXPONENT_LIMIT - size
+    } else {
+        EXPONENT_LIMIT + size
+    }
+}
+
 // The count of digits in a column.
 pub(crate) fn hash_count(image: Image) -> usize
     ensures { result ≡ hashes image }
@@ -33,7 +46,6 @@ pub(crate) fn hash_count(image: Image) -> usize
 
 // The count of half bytes in a column before the padding.
 pub(crate) fn half_count(image: Image) -> usize
-    requires { hashes image ≤ precision }
     ensures { result ≡ half_count image }
 {
     let sign = image.sign;
@@ -42,7 +54,6 @@ pub(crate) fn half_count(image: Image) -> usize
 
 // The count of bytes in a column.
 pub(crate) fn column_size(image: Image) -> usize
-    requires { hashes image ≤ precision }
     ensures { result ≡ column_size image }
 {
     let halves = half_count(image);

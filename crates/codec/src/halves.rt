@@ -1,7 +1,6 @@
 // Runs of half bytes and the bytes that they make, the high half first (document 01: Packed bodies).
-ghost use Rattle.std.specs.Prelude.{◌≡◌, ◌+◌, ◌*◌, ◌/◌, ◌%◌, ◌≤◌, length};
+ghost use Rattle.std.specs.Prelude.{◌≡◌, ◌*◌, ◌/◌, ◌%◌, ◌≤◌, length};
 ghost use Rattle.decimal.specs.Digits.{halves_in};
-ghost use Rattle.codec.specs.Answers.{written};
 ghost use Rattle.codec.specs.Halves.{pack_halves};
 
 // The high half of a byte.
@@ -18,14 +17,13 @@ pub(crate) fn low_half(byte: u8) -> u8
     byte & 15
 }
 
-// Writes the bytes that the last 2 * size half bytes of a run make, from a place of the buffer on.
-pub(crate) fn write_run(run: u64, size: usize, buffer: &mut [u8], at: usize)
-    requires { (size ≤ 8) × (at + size ≤ length buffer.old) }
-    ensures { buffer.new ≡ written buffer.old at (pack_halves (halves_in (2 * size) run)) }
+// Writes the bytes that the last half bytes of a run make, as many as the target has.
+pub(crate) fn write_run(run: u64, target: &mut [u8])
+    requires { length target.old ≤ 8 }
+    ensures { target.new ≡ pack_halves (halves_in (2 * length target.old) run) }
 {
-    let mut k = 0;
-    while k < size {
-        buffer[at + k] = ((run >> (8 * (size - 1 - k))) & 255) as u8;
-        k += 1;
+    let size = target.len();
+    for (k, byte) in target.iter_mut().enumerate() {
+        *byte = ((run >> (8 * (size - 1 - k))) & 255) as u8;
     }
 }

@@ -15,14 +15,14 @@ mod walking;
 mod worths;
 
 pub use alpha::{write_alpha, write_alpha_under};
-pub use answers::{NO_ROOM, WRONG_COUNT, WRONG_LENGTH, WriteAnswer, written_part};
+pub use answers::written_part;
 pub use contents::{Contents, read_alone, read_contents};
-pub use lists::{COLUMNS, Images, Numbers};
+pub use lists::{COLUMNS, Images, Numbers, Remainders};
 pub use packing::{pack, pack_under};
-pub use remainders::{Packed, Remainders, pack_with_remainders};
-pub use text::{NO_NUMBER, NOT_TEXT, Reading, TextAnswer, convert, legal_length, read_text_number};
-pub use unpacking::{BAD_HALF, Unpacked, unpack, unpack_under};
+pub use remainders::{Packed, pack_with_remainders};
+pub use text::{NO_NUMBER, Reading, TextNumber, convert, legal_length, read_text_number};
+pub use unpacking::{unpack, unpack_under};
 pub use walking::{
-    WalkAnswer, Walked, Walker, next_number_place, next_text_number, read_text_numbers,
-    skip_to_number, walker_over, walker_place,
+    Stop, Walked, Walker, next_number_place, next_text_number, read_text_numbers, skip_to_number,
+    walker_over, walker_place,
 };

@@ -1,19 +1,15 @@
-// Lists of images and of numbers: what a contents and a body have, one for each column.
-use decimal::{Image, Number};
+// Lists of what a contents and a body have, one value for each column.
+use arrayvec::ArrayVec;
+use decimal::{Image, Number, Remainder};
 
 // The most columns that a contents has.
 pub const COLUMNS: usize = 16;
 
-// A list of images: the first count of the values. A count above COLUMNS is a list that no contents has.
-#[derive(Clone, Copy)]
-pub struct Images {
-    pub values: [Image; COLUMNS],
-    pub count: usize,
-}
+// Images, as a contents has them.
+pub type Images = ArrayVec<Image, COLUMNS>;
 
-// A list of numbers: the first count of the values. A count above COLUMNS is a list longer than any contents.
-#[derive(Clone, Copy)]
-pub struct Numbers {
-    pub values: [Number; COLUMNS],
-    pub count: usize,
-}
+// Numbers, as a body has them.
+pub type Numbers = ArrayVec<Number, COLUMNS>;
+
+// What truncation cut off the numbers of a body.
+pub type Remainders = ArrayVec<Remainder, COLUMNS>;

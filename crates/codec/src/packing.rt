@@ -1,21 +1,19 @@
 // Packing a list of numbers into a body (document 01: Packed bodies).
-ghost use Rattle.std.specs.Prelude.{◌≡◌, ◌++◌, ◌+◌, ◌-◌, ◌*◌, ◌≤◌, ltb, length};
-ghost use Rattle.decimal.specs.Answer.{pick};
+ghost use Rattle.std.specs.Prelude.{◌≡◌, true, ◌++◌, ◌+◌, ◌-◌, ◌*◌, ◌≤◌, ltb, length};
+ghost use Rattle.decimal.specs.Answer.{done, meaning, checked_only, pick};
 ghost use Rattle.decimal.specs.Digits.{digits_of, packed_of};
 ghost use Rattle.decimal.specs.Image.{hashes};
 ghost use Rattle.decimal.specs.Number.{exponent_limit};
 ghost use Rattle.decimal.specs.Truncation.{Fit, truncated_to};
-ghost use Rattle.codec.specs.Answers.{stored_in, write_meaning, sized, written};
-ghost use Rattle.codec.specs.Columns.{column_size};
-ghost use Rattle.codec.specs.Lists.{list_of, image_list};
-ghost use Rattle.codec.specs.Packing.{column_bytes, packing, packing_under, sign_halves, Held, held_by};
+ghost use Rattle.codec.specs.Answers.{stored_in, sized};
+ghost use Rattle.codec.specs.Columns.{column_size, body_size};
+ghost use Rattle.codec.specs.Alpha.{zero_at};
+ghost use Rattle.codec.specs.Packing.{column_bytes, column_halves, exponent_halves, packing, packing_under, pack_columns, AllPack, sign_halves, Held, held_by};
 
-use crate::answers::{NO_ROOM, WRONG_COUNT, WriteAnswer, not_written};
-use crate::columns::{column_size, hash_count, sign_count};
+use crate::columns::{column_size, half_count, hash_count, sign_count};
 use crate::contents::{body_size, check_images, read_alone};
 use crate::halves::write_run;
-use crate::lists::{Images, Numbers};
-use decimal::{CheckAnswer, EXPONENT_LIMIT, Image, Number, Truncation, fit_packed, truncate};
+use decimal::{EXPONENT_LIMIT, Image, Number, Refusal, Truncation, fit_packed, truncate};
 
 // The size |x| of a stored exponent that is held as x + EXPONENT_LIMIT.
 pub(crate) fn exponent_size(x: usize) -> u8
@@ -39,7 +37,7 @@ fn sign_half(negative: bool, x: usize) -> u8
 }
 
 // The sign half of a column, if it has one, and its digits, as one run of half bytes.
-fn column_run(image: Image, truncation: Truncation) -> u64
+fn signed_run(image: Image, truncation: Truncation) -> u64
     requires { Held image truncation }
     ensures { result ≡ packed_of (sign_halves image.sign (held_by truncation) ++ digits_of (hashes image) (held_by truncation).whole) }
 {
@@ -51,78 +49,85 @@ fn column_run(image: Image, truncation: Truncation) -> u64
     (half << (4 * hash_count(image))) | truncation.halves
 }
 
-// Writes a column from a place of the buffer on.
-fn write_column(image: Image, number: Number, buffer: &mut [u8], at: usize)
-    requires { (Fit image number) × (at + column_size image ≤ length buffer.old) }
-    ensures { buffer.new ≡ written buffer.old at (column_bytes image (truncated_to image number)) }
+// The two digits of |x| as half bytes.
+fn exponent_run(x: usize) -> u64
+    requires { x ≤ 2 * exponent_limit }
+    ensures { result ≡ packed_of (exponent_halves true (zero_at x)) }
 {
-    let truncation = truncate(image, number, 0);
-    let run = column_run(image, truncation);
-    let sign = image.sign;
-    let count = sign_count(sign) + hash_count(image);
-    let size = exponent_size(truncation.x);
-    let whole = count / 2;
-    if count % 2 == 0 {
-        write_run(run, whole, &mut *buffer, at);
-        if image.exponential {
-            buffer[at + whole] = (size / 10) << 4 | (size % 10);
-        }
-    } else {
-        write_run((run << 4) | (size / 10) as u64, whole + 1, &mut *buffer, at);
-        if image.exponential {
-            buffer[at + (whole + 1)] = (size % 10) << 4;
-        }
+    let size = exponent_size(x) as u64;
+    (size / 10) << 4 | (size % 10)
+}
+
+// A column as one run of half bytes: the sign half and the digits, then two digits of |x| if it is exponential, then a zero half if their
+// count is odd.
+fn column_run(image: Image, truncation: Truncation) -> u64
+    requires { Held image truncation }
+    ensures { result ≡ packed_of (column_halves image (held_by truncation)) }
+{
+    let mut run = signed_run(image, truncation);
+    if image.exponential {
+        run = (run << 8) | exponent_run(truncation.x);
+    }
+    run << (4 * (half_count(image) % 2))
+}
+
+// Writes a column, which is the whole target.
+fn write_column(image: Image, number: Number, target: &mut [u8])
+    requires { (Fit image number) × (length target.old ≡ column_size image) }
+    ensures { target.new ≡ column_bytes image (truncated_to image number) }
+{
+    let truncation = truncate(image, number, 0).unwrap();
+    write_run(column_run(image, truncation), target);
+}
+
+// Whether all numbers can be packed, each under its image; refused from the left with 3, 4, 5 and the column.
+fn check_numbers(images: &[Image], numbers: &[Number]) -> Result<(), Refusal>
+    requires { length images.now ≡ length numbers.now }
+    ensures { meaning result ≡ checked_only (pack_columns 0 images.now numbers.now) }
+{
+    for (column, image) in images.iter().enumerate() {
+        fit_packed(*image, numbers[column], column)?;
+    }
+    Ok(())
+}
+
+// Writes the columns of numbers that can be packed, one behind the other.
+fn write_columns(images: &[Image], numbers: &[Number], body: &mut [u8])
+    requires { (AllPack images.now numbers.now) × (length body.old ≡ body_size images.now) }
+    ensures { pack_columns 0 images.now numbers.now ≡ done body.new }
+{
+    let mut at = 0;
+    for column in 0..images.len() {
+        let end = at + column_size(images[column]);
+        write_column(images[column], numbers[column], &mut body[at..end]);
+        at = end;
     }
 }
 
 // Packs a list under images into a buffer: the body stands at its start, and the bytes behind it stay.
 // Refused as the images are, then with 10, items from the left with 3, 4, 5 and the column, last 6; then no byte changes.
-pub fn pack_under(images: Images, numbers: Numbers, buffer: &mut [u8]) -> WriteAnswer
-    ensures answer { write_meaning result ≡ sized (packing_under (image_list images) (list_of numbers) (length buffer.old)) }
-    ensures bytes { buffer.new ≡ stored_in (packing_under (image_list images) (list_of numbers) (length buffer.old)) buffer.old }
+pub fn pack_under(images: &[Image], numbers: &[Number], buffer: &mut [u8]) -> Result<usize, Refusal>
+    ensures answer { meaning result ≡ sized (packing_under images.now numbers.now (length buffer.old)) }
+    ensures bytes { buffer.new ≡ stored_in (packing_under images.now numbers.now (length buffer.old)) buffer.old }
 {
-    if let CheckAnswer::Refused(refusal) = check_images(images) {
-        return WriteAnswer::Refused(refusal);
+    check_images(images)?;
+    if numbers.len() != images.len() {
+        return Err(Refusal::WRONG_COUNT);
     }
-    let count = images.count;
-    if numbers.count != count {
-        return not_written(WRONG_COUNT);
-    }
-    let mut checked = 0;
-    while checked < count {
-        let image = images.values[checked];
-        let number = numbers.values[checked];
-        if let CheckAnswer::Refused(refusal) = fit_packed(image, number, checked) {
-            return WriteAnswer::Refused(refusal);
-        }
-        checked += 1;
-    }
+    check_numbers(images, numbers)?;
     let size = body_size(images);
     if buffer.len() < size {
-        return not_written(NO_ROOM);
+        return Err(Refusal::NO_ROOM);
     }
-    let mut at = 0;
-    let mut column = 0;
-    while column < count {
-        let image = images.values[column];
-        let number = numbers.values[column];
-        write_column(image, number, &mut *buffer, at);
-        at += column_size(image);
-        column += 1;
-    }
-    WriteAnswer::Written(size)
+    write_columns(images, numbers, &mut buffer[..size]);
+    Ok(size)
 }
 
 // Packs a list under a contents lent alone into a buffer, as pack_under does; refused first as the contents is.
-pub fn pack(contents: &[u8], numbers: Numbers, buffer: &mut [u8]) -> WriteAnswer
-    ensures answer { write_meaning result ≡ sized (packing contents.now (list_of numbers) (length buffer.old)) }
-    ensures bytes { buffer.new ≡ stored_in (packing contents.now (list_of numbers) (length buffer.old)) buffer.old }
+pub fn pack(contents: &[u8], numbers: &[Number], buffer: &mut [u8]) -> Result<usize, Refusal>
+    ensures answer { meaning result ≡ sized (packing contents.now numbers.now (length buffer.old)) }
+    ensures bytes { buffer.new ≡ stored_in (packing contents.now numbers.now (length buffer.old)) buffer.old }
 {
-    let table = read_alone(contents);
-    let answer = table.answer;
-    if let CheckAnswer::Refused(refusal) = answer {
-        return WriteAnswer::Refused(refusal);
-    }
-    let images = table.images;
-    pack_under(images, numbers, buffer)
+    let table = read_alone(contents)?;
+    pack_under(&table.images, numbers, buffer)
 }

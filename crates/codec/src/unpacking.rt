@@ -1,82 +1,52 @@
 // Reading a body back (document 01: Packed bodies).
 ghost use Rattle.std.specs.Prelude.{◌≡◌, ◌+◌, ◌-◌, ◌*◌, ◌/◌, ◌%◌, ◌^◌, ◌<◌, ◌≤◌, ltb, length, drop};
-ghost use Rattle.decimal.specs.Answer.{Answer, pick};
+ghost use Rattle.decimal.specs.Answer.{Answer, meaning, mapped, pick};
 ghost use Rattle.decimal.specs.Digits.{precision};
 ghost use Rattle.decimal.specs.Image.{hashes};
-ghost use Rattle.decimal.specs.Number.{exponent_limit, number_meaning};
-ghost use Rattle.codec.specs.Lists.{image_list};
-ghost use Rattle.codec.specs.Columns.{column_size, Checked};
+ghost use Rattle.decimal.specs.Number.{exponent_limit};
+ghost use Rattle.codec.specs.Lists.{max_columns, items_of};
+ghost use Rattle.codec.specs.Columns.{column_size, body_size, Checked, AllChecked};
 ghost use Rattle.codec.specs.Halves.{halves_of};
 ghost use Rattle.codec.specs.Worths.{IsWorths};
-ghost use Rattle.codec.specs.Unpacking.{below_bit, breaks_rules, parts_number, unpack_column, unpack_under, unpacking, unpacked_of, run_limit, read_on, run_meaning, first_half, unpadded_number, run_number};
+ghost use Rattle.codec.specs.Unpacking.{below_bit, breaks_rules, parts_number, unpack_column, unpack_columns, unpack_under, unpacking, run_limit, read_on, run_meaning, first_half, unpadded_number, run_number};
 
-use crate::answers::WRONG_LENGTH;
-use crate::columns::{column_size, half_count, hash_count, sign_count};
+use crate::columns::{column_size, half_count, hash_count, sign_count, signed_exponent};
 use crate::contents::{body_size, check_images, read_alone};
 use crate::halves::{high_half, low_half};
-use crate::lists::{COLUMNS, Images, Numbers};
+use crate::lists::Numbers;
 use crate::worths::{NO_WORTH, WORTHS};
-use decimal::{CheckAnswer, EXPONENT_LIMIT, Image, Number, NumberAnswer, Refusal, power_of_ten};
+use decimal::{EXPONENT_LIMIT, Image, Number, Reason, Refusal, power_of_ten};
 
-// Refusal 7: a half byte outside the rules.
-pub const BAD_HALF: u8 = 7;
-
-// The numbers of a body. Where the answer is a refusal the list is empty.
-#[derive(Clone, Copy)]
-pub struct Unpacked {
-    pub answer: CheckAnswer,
-    pub numbers: Numbers,
-}
-
-// All halves of a column behind its sign half as one whole number, or Bad where one is above 9.
-#[derive(Clone, Copy)]
-enum ColumnRun {
-    Value(u64),
-    Bad,
-}
-
-// The answer for a half outside the rules.
-fn bad_half(column: usize) -> NumberAnswer
-    ensures { number_meaning result ≡ Answer.refused 7 column }
-{
-    NumberAnswer::Refused(Refusal {
-        number: BAD_HALF,
-        place: column,
-    })
-}
-
-// The value of start with the digits of the bytes from a place on behind it, two for each byte; Bad where a half is above 9.
-fn read_pairs(bytes: &[u8], from: usize, start: u64, worths: &[u8; 256]) -> ColumnRun
-    requires { (from ≤ length bytes.now) × (length bytes.now ≤ 9) × (start < 10) × IsWorths worths.now }
-    ensures { run_meaning result ≡ read_on start (halves_of (drop from bytes.now)) }
+// The value of start with the digits of the bytes behind it, two for each byte; none where a half is above 9.
+fn read_pairs(bytes: &[u8], start: u64, worths: &[u8; 256]) -> Option<u64>
+    requires { (length bytes.now ≤ 9) × (start < 10) × IsWorths worths.now }
+    ensures { run_meaning result ≡ read_on start (halves_of bytes.now) }
 {
     let mut value = start;
-    let mut i = from;
-    while i < bytes.len() {
-        let two = worths[bytes[i] as usize];
+    for byte in bytes {
+        let two = worths[*byte as usize];
         let is_bad = two == NO_WORTH;
         if is_bad {
-            return ColumnRun::Bad;
+            return None;
         }
         value = value * 100 + two as u64;
-        i += 1;
     }
-    ColumnRun::Value(value)
+    Some(value)
 }
 
 // All halves of a column behind its sign half as one whole number; Bad where one is above 9.
-fn read_run(bytes: &[u8], signs: usize, worths: &[u8; 256]) -> ColumnRun
+fn read_run(bytes: &[u8], signs: usize, worths: &[u8; 256]) -> Option<u64>
     requires { (0 < length bytes.now) × (length bytes.now ≤ 9) × (signs ≤ 1) × IsWorths worths.now }
     ensures { run_meaning result ≡ read_on 0 (drop signs (halves_of bytes.now)) }
 {
     if signs == 0 {
-        return read_pairs(bytes, 0, 0, worths);
+        return read_pairs(bytes, 0, worths);
     }
     let first = low_half(bytes[0]);
     if 9 < first {
-        return ColumnRun::Bad;
+        return None;
     }
-    read_pairs(bytes, 1, first as u64, worths)
+    read_pairs(&bytes[1..], first as u64, worths)
 }
 
 // The sign half of a column, 0 where it has none.
@@ -84,10 +54,7 @@ fn column_sign(bytes: &[u8], signs: usize) -> u8
     requires { 0 < length bytes.now }
     ensures { result ≡ first_half signs (halves_of bytes.now) }
 {
-    if signs == 0 {
-        return 0;
-    }
-    high_half(bytes[0])
+    if signs == 0 { 0 } else { high_half(bytes[0]) }
 }
 
 // Whether the digits of an exponential column, as a whole number that is not 0, begin with 0.
@@ -126,37 +93,33 @@ fn breaks_rules(image: Image, sign: u8, whole: u64, size: usize) -> bool
     false
 }
 
-// The stored exponent of a sign half and |x|, plus EXPONENT_LIMIT.
-fn signed_exponent(sign: u8, size: usize) -> usize
-    requires { size ≤ exponent_limit }
-    ensures { result ≡ pick (below_bit sign) (exponent_limit - size) (exponent_limit + size) }
-{
-    if 8 <= sign {
-        return EXPONENT_LIMIT - size;
-    }
-    EXPONENT_LIMIT + size
-}
-
 // The number that a sign half, the digits as a whole number, and |x| stand for; refused with 7 where they break a rule.
-fn parts_number(image: Image, sign: u8, whole: u64, size: usize, column: usize) -> NumberAnswer
+fn parts_number(
+    image: Image,
+    sign: u8,
+    whole: u64,
+    size: usize,
+    column: usize,
+) -> Result<Number, Refusal>
     requires { (hashes image ≤ precision) × (whole < run_limit) × (size ≤ exponent_limit) }
-    ensures { number_meaning result ≡ parts_number column image sign whole size }
+    ensures { meaning result ≡ parts_number column image sign whole size }
 {
+    let bad = Refusal {
+        reason: Reason::BadHalf,
+        place: column,
+    };
     if breaks_rules(image, sign, whole, size) {
-        return bad_half(column);
+        return Err(bad);
     }
-    let up = signed_exponent(sign, size) as u16;
+    let up = signed_exponent(8 <= sign, size) as u16;
     let down = (EXPONENT_LIMIT + image.fraction as usize) as u16;
-    match Number::from_scaled(sign & 7 == 1, whole, up, down, column) {
-        NumberAnswer::Number(number) => NumberAnswer::Number(number),
-        NumberAnswer::Refused(_) => bad_half(column),
-    }
+    Number::from_scaled(sign & 7 == 1, whole, up, down, column).or(Err(bad))
 }
 
 // The number of a sign half and of the digits behind it with no padding.
-fn unpadded_number(image: Image, sign: u8, value: u64, column: usize) -> NumberAnswer
+fn unpadded_number(image: Image, sign: u8, value: u64, column: usize) -> Result<Number, Refusal>
     requires { (hashes image ≤ precision) × (value < run_limit) }
-    ensures { number_meaning result ≡ unpadded_number column image sign value }
+    ensures { meaning result ≡ unpadded_number column image sign value }
 {
     if image.exponential {
         return parts_number(image, sign, value / 100, (value % 100) as usize, column);
@@ -165,9 +128,9 @@ fn unpadded_number(image: Image, sign: u8, value: u64, column: usize) -> NumberA
 }
 
 // The number of a sign half and of all the digits behind it; refused with 7 if there is a pad that is not 0.
-fn run_number(image: Image, sign: u8, value: u64, column: usize) -> NumberAnswer
+fn run_number(image: Image, sign: u8, value: u64, column: usize) -> Result<Number, Refusal>
     requires { (hashes image ≤ precision) × (value < run_limit) }
-    ensures { number_meaning result ≡ run_number column image sign value }
+    ensures { meaning result ≡ run_number column image sign value }
 {
     if half_count(image) % 2 == 0 {
         return unpadded_number(image, sign, value, column);
@@ -175,81 +138,66 @@ fn run_number(image: Image, sign: u8, value: u64, column: usize) -> NumberAnswer
     if value % 10 == 0 {
         return unpadded_number(image, sign, value / 10, column);
     }
-    bad_half(column)
+    Err(Refusal {
+        reason: Reason::BadHalf,
+        place: column,
+    })
 }
 
 // The number of a column's bytes; refused with 7 and the column.
-fn unpack_column(image: Image, bytes: &[u8], column: usize, worths: &[u8; 256]) -> NumberAnswer
+fn unpack_column(
+    image: Image,
+    bytes: &[u8],
+    column: usize,
+    worths: &[u8; 256],
+) -> Result<Number, Refusal>
     requires { Checked image × (length bytes.now ≡ column_size image) × IsWorths worths.now }
-    ensures { number_meaning result ≡ unpack_column column image bytes.now }
+    ensures { meaning result ≡ unpack_column column image bytes.now }
 {
     let sign = image.sign;
     let signs = sign_count(sign);
-    match read_run(bytes, signs, worths) {
-        ColumnRun::Bad => bad_half(column),
-        ColumnRun::Value(value) => {
-            let half = column_sign(bytes, signs);
-            run_number(image, half, value, column)
-        }
-    }
+    let Some(value) = read_run(bytes, signs, worths) else {
+        return Err(Refusal {
+            reason: Reason::BadHalf,
+            place: column,
+        });
+    };
+    let half = column_sign(bytes, signs);
+    run_number(image, half, value, column)
 }
 
-// A refusal instead of numbers.
-fn refused(number: u8, place: usize) -> Unpacked
-    ensures { result ≡ unpacked_of (Answer.refused number place) }
+// The numbers of the columns of a body; refused from the left with 7 and the column.
+fn unpack_columns(images: &[Image], body: &[u8]) -> Result<Numbers, Refusal>
+    requires { (length images.now ≤ max_columns) × AllChecked images.now × (length body.now ≡ body_size images.now) }
+    ensures { mapped items_of (meaning result) ≡ unpack_columns 0 images.now body.now }
 {
-    Unpacked {
-        answer: CheckAnswer::Refused(Refusal { number, place }),
-        numbers: Numbers {
-            values: [Number::ZERO; COLUMNS],
-            count: 0,
-        },
+    let worths = WORTHS;
+    let mut numbers = Numbers::new();
+    let mut at = 0;
+    for (column, image) in images.iter().enumerate() {
+        let end = at + column_size(*image);
+        numbers.push(unpack_column(*image, &body[at..end], column, &worths)?);
+        at = end;
     }
+    Ok(numbers)
 }
 
 // The numbers of a body under images.
 // Refused as the images are, then with 11 for a body of another length, then from the left with 7 and the column.
-pub fn unpack_under(images: Images, body: &[u8]) -> Unpacked
-    ensures { result ≡ unpacked_of (unpack_under (image_list images) body.now) }
+pub fn unpack_under(images: &[Image], body: &[u8]) -> Result<Numbers, Refusal>
+    ensures { mapped items_of (meaning result) ≡ unpack_under images.now body.now }
 {
-    if let CheckAnswer::Refused(refusal) = check_images(images) {
-        return refused(refusal.number, refusal.place);
-    }
+    check_images(images)?;
     if body.len() != body_size(images) {
-        return refused(WRONG_LENGTH, 0);
+        return Err(Refusal::WRONG_LENGTH);
     }
-    let worths = WORTHS;
-    let count = images.count;
-    let mut values = [Number::ZERO; COLUMNS];
-    let mut at = 0;
-    let mut column = 0;
-    while column < count {
-        let image = images.values[column];
-        let end = at + column_size(image);
-        match unpack_column(image, &body[at..end], column, &worths) {
-            NumberAnswer::Refused(refusal) => return refused(refusal.number, refusal.place),
-            NumberAnswer::Number(number) => {
-                values[column] = number;
-            }
-        }
-        at = end;
-        column += 1;
-    }
-    Unpacked {
-        answer: CheckAnswer::Fine,
-        numbers: Numbers { values, count },
-    }
+    unpack_columns(images, body)
 }
 
 // The numbers of a body under a contents lent alone, as unpack_under gives them; refused first as the contents is.
-pub fn unpack(contents: &[u8], body: &[u8]) -> Unpacked
-    ensures { result ≡ unpacked_of (unpacking contents.now body.now) }
+pub fn unpack(contents: &[u8], body: &[u8]) -> Result<Numbers, Refusal>
+    ensures { mapped items_of (meaning result) ≡ unpacking contents.now body.now }
 {
-    let table = read_alone(contents);
-    let answer = table.answer;
-    if let CheckAnswer::Refused(refusal) = answer {
-        return refused(refusal.number, refusal.place);
-    }
-    let images = table.images;
-    unpack_under(images, body)
+    let table = read_alone(contents)?;
+    unpack_under(&table.images, body)
 }

@@ -1,11 +1,11 @@
 // Walking a text: a small record that refers to the lent text, and reading all text numbers of a text (document 01: Record file).
 ghost use Rattle.std.specs.Prelude.{◌≡◌, drop};
 ghost use Rattle.codec.specs.Text.{reading_meaning, reading_in, legal_length};
-ghost use Rattle.codec.specs.Walking.{number_place, stop_before, walked_of, walking, ahead_of, moved_on, skipped_on};
+ghost use Rattle.codec.specs.Walking.{number_place, stop_before, walk_of, walking, ahead_of, moved_on, skipped_on};
 
-use crate::lists::{COLUMNS, Numbers};
-use crate::text::{NO_READING, Reading, blanks, read_text};
-use decimal::{Number, NumberAnswer, Refusal};
+use crate::lists::Numbers;
+use crate::text::{NO_READING, Reading, read_text};
+use decimal::{Refusal, leading_run};
 
 // A walk over a lent text: the text, and the place where it goes on.
 #[derive(Clone, Copy)]
@@ -14,19 +14,18 @@ pub struct Walker<'a> {
     place: usize,
 }
 
-// Why reading stopped: at the end, where no text number begins, at a number that is refused, or before one number too many.
-#[derive(Clone, Copy)]
-pub enum WalkAnswer {
+// Why reading stopped where no number is refused: at the end, where no text number begins, or before one number too many.
+#[derive(Clone, Copy, Debug, PartialEq, Eq, Hash)]
+pub enum Stop {
     End,
     NoNumber,
-    Refused(Refusal),
     TooMany,
 }
 
-// The text numbers that were read in order, and where and why reading stopped.
-#[derive(Clone, Copy)]
+// The text numbers that were read in order, and where and why reading stopped: a refused number's refusal, or another reason.
+#[derive(Drop)]
 pub struct Walked {
-    pub answer: WalkAnswer,
+    pub answer: Result<Stop, Refusal>,
     pub numbers: Numbers,
     pub place: usize,
 }
@@ -35,10 +34,10 @@ pub struct Walked {
 fn read_at(text: &[u8], place: usize) -> Reading
     ensures { reading_meaning result ≡ reading_in (drop place text.now) }
 {
-    if text.len() <= place {
-        return NO_READING;
+    match text.get(place..) {
+        Some(rest) => read_text(rest),
+        None => NO_READING,
     }
-    read_text(&text[place..])
 }
 
 // The next place, from one on, where a text number begins; the text's end where there is none, a place past the end as it is.
@@ -48,11 +47,11 @@ pub fn next_number_place(text: &[u8], from: usize) -> usize
 {
     let mut place = from;
     while place < text.len() {
-        let behind = place + blanks(text, place);
+        let behind = place + leading_run(&text[place..], b' ');
         if text.len() <= behind {
             return behind;
         }
-        let reading = read_at(text, behind);
+        let reading = read_text(&text[behind..]);
         if reading.used != 0 {
             return place;
         }
@@ -62,62 +61,49 @@ pub fn next_number_place(text: &[u8], from: usize) -> usize
 }
 
 // Why no number is read at a place where so many bytes would be used.
-fn why_stopped(text: &[u8], place: usize, used: usize) -> WalkAnswer
+// It takes the whole text, as read_at does: a place may lie past the end, where no rest can be lent.
+fn why_stopped(text: &[u8], place: usize, used: usize) -> Stop
     requires { used ≡ legal_length (drop place text.now) }
     ensures { result ≡ stop_before (drop place text.now) }
 {
     if text.len() <= place {
-        return WalkAnswer::End;
+        return Stop::End;
     }
     if used == 0 {
-        return WalkAnswer::NoNumber;
+        return Stop::NoNumber;
     }
-    WalkAnswer::TooMany
+    Stop::TooMany
 }
 
-// All text numbers of a text from a place on, in order, up to COLUMNS; slots past the count are zero.
-// A number refused with 5 has its index for its place.
+// All text numbers of a text from a place on, in order, up to COLUMNS. A number refused with 5 has its index for its place.
 pub fn read_text_numbers(text: &[u8], from: usize) -> Walked
-    ensures { result ≡ walked_of (walking text.now from) }
+    ensures { walk_of result ≡ walking text.now from }
 {
-    let mut values = [Number::ZERO; COLUMNS];
-    let mut count = 0;
+    let mut numbers = Numbers::new();
     let mut place = from;
-    while count < COLUMNS {
+    loop {
         let reading = read_at(text, place);
-        if reading.used == 0 {
-            let answer = why_stopped(text, place, 0);
+        if reading.used == 0 || numbers.is_full() {
             return Walked {
-                answer,
-                numbers: Numbers { values, count },
+                answer: Ok(why_stopped(text, place, reading.used)),
+                numbers,
                 place,
             };
         }
-        let number = reading.number;
-        match number {
-            NumberAnswer::Refused(refusal) => {
+        match reading.number {
+            Ok(number) => numbers.push(number),
+            Err(refusal) => {
                 return Walked {
-                    answer: WalkAnswer::Refused(Refusal {
-                        number: refusal.number,
-                        place: count,
+                    answer: Err(Refusal {
+                        reason: refusal.reason,
+                        place: numbers.len(),
                     }),
-                    numbers: Numbers { values, count },
+                    numbers,
                     place,
                 };
             }
-            NumberAnswer::Number(number) => {
-                values[count] = number;
-            }
         }
         place += reading.used;
-        count += 1;
-    }
-    let reading = read_at(text, place);
-    let answer = why_stopped(text, place, reading.used);
-    Walked {
-        answer,
-        numbers: Numbers { values, count },
-        place,
     }
 }
 

@@ -1,11 +1,7 @@
 -- What a caller takes from the answer of reading. Assumes nothing.
-use Prim.Native.Nat.{ℕ}
-use mathlib.Core.Path.{◌≡◌, subst}
-use mathlib.Core.List.{List}
+use Rattle.std.proofs.Common.{◌≡◌, ℕ, List, Result, Ok, subst}
 use Rattle.console.specs.Within.{IsPrefixLen, Within}
-use Rattle.console.specs.declared.Input.{Input}
-use Rattle.console.specs.declared.Input.TheVariants as gives
 
 -- a count that reading gave is inside the buffer
-pub read_inside : (buffer : List ℕ) {found : Input} {size : ℕ} → found ≡ gives.Bytes size → Within found buffer → IsPrefixLen size buffer
-read_inside buffer e h = subst (λ (i : Input). Within i buffer) e h
+pub read_inside : {E : Type 0} (buffer : List ℕ) {found : Result ℕ E} {size : ℕ} → found ≡ Ok size → Within found buffer → IsPrefixLen size buffer
+read_inside buffer e h = subst (λ (r : Result ℕ _). Within r buffer) e h

@@ -8,38 +8,32 @@ ghost use Rattle.console.specs.Within.{Within, Reads};
 use std::io;
 use std::io::Read;
 
-// What reading gave: so many bytes at the start of a buffer, or that a read failed.
-#[derive(Clone, Copy)]
-pub enum Input {
-    Bytes(usize),
-    Failed,
-}
-
-// Reads until the reader ends or the buffer is full.
-pub fn read_from<R: Read>(reader: &mut R, buffer: &mut [u8]) -> Input
+// Reads until the reader ends or the buffer is full, and gives how many bytes stand at the buffer's start; else the error of the read that
+// failed.
+pub fn read_from<R: Read>(reader: &mut R, buffer: &mut [u8]) -> io::Result<usize>
     ensures within { Within result buffer.new }
     ensures bytes { Reads (R.remaining reader.old) (R.remaining reader.new) result buffer.new }
 {
     let mut size = 0;
     while size < buffer.len() {
-        match reader.read(&mut buffer[size..]) {
-            Ok(0) => return Input::Bytes(size),
-            Ok(more) => size += more,
-            Err(_) => return Input::Failed,
+        let more = reader.read(&mut buffer[size..])?;
+        if more == 0 {
+            return Ok(size);
         }
+        size += more;
     }
-    Input::Bytes(size)
+    Ok(size)
 }
 
 // Reads standard input until it ends or the buffer is full; a failed read is told.
-pub fn read_input(rt: &(impl io::Input + Eprint), buffer: &mut [u8]) -> Input
+pub fn read_input(rt: &(impl io::Input + Eprint), buffer: &mut [u8]) -> io::Result<usize>
     ensures { Within result buffer.new }
 {
-    let input = read_from(&mut rt.reader(), buffer);
-    if let Input::Failed = input {
+    let read = read_from(&mut rt.reader(), buffer);
+    if read.is_err() {
         tell(rt, "reading standard input failed\n");
     }
-    input
+    read
 }
 
 // Writes bytes to standard output, and gives whether all are written, as no bytes are from the start; a failed write is told.

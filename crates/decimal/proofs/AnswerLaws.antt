@@ -1,6 +1,8 @@
 -- Laws of answers one after the other. Assumes nothing.
-use Rattle.std.proofs.Common.{◌≡◌, ℕ, sym, refl, ap, ◌∙◌, ap₂, arith}
-use Rattle.decimal.specs.Answer.{Answer, done, refused, ◌then◌}
+use Rattle.std.proofs.Common.{◌≡◌, ℕ, true, false, Result, Ok, Err, sym, refl, ap, ◌∙◌, ap₂, arith}
+use Rattle.std.specs.Result.{IsOk, IsErrAnd, is_ok}
+use Rattle.decimal.specs.declared.refusal.Refusal.{Refusal}
+use Rattle.decimal.specs.Answer.{Answer, done, refused, ◌then◌, mapped, reason_number, meaning}
 
 -- a refused answer is not done
 pub never_done : {A B : Type 0} {number place : ℕ} {a : A} → ◌≡◌ {A = Answer A} (refused number place) (done a) → B
@@ -66,3 +68,50 @@ pub then_same : {A : Type 0} (a : Answer A) → (a then λ (x : A). done x) ≡ 
 unfolding ◌then◌
 then_same (done x) = refl
 then_same (refused number place) = refl
+
+-- What is refused behind a `?` is refused as the call before it was.
+pub passed_on : {A : Type 0} (r : Result A Refusal) (e : Refusal) → IsErrAnd r (λ (y : Refusal). y ≡ e) → meaning r ≡ refused (reason_number e.reason) e.place
+passed_on (Ok a) e h = absurd h
+passed_on (Err y) e h = ap (λ (e : Refusal). refused (reason_number e.reason) e.place) h
+
+-- What is done is no refusal.
+pub done_ok : {A : Type 0} (r : Result A Refusal) {a : A} → meaning r ≡ done a → IsOk r
+done_ok (Ok x) h = refl
+done_ok (Err e) h = never_done h
+
+-- Another result of an answer.
+
+-- that of one that is done
+pub mapped_done : {A B : Type 0} (f : A → B) {a : Answer A} {x : A} → a ≡ done x → mapped f a ≡ done (f x)
+unfolding mapped
+mapped_done f e = ap (mapped f) e
+
+-- one that is refused stays so
+pub mapped_refused : {A B : Type 0} (f : A → B) {a : Answer A} {number place : ℕ} → a ≡ refused number place → mapped f a ≡ refused number place
+unfolding mapped
+mapped_refused f e = ap (mapped f) e
+
+-- and back: an answer that is done behind a change was done before it
+pub mapped_back : {A B : Type 0} (f : A → B) (a : Answer A) {y : B} → done y ≡ mapped f a → (x : A) × (a ≡ done x) × (y ≡ f x)
+unfolding mapped
+mapped_back f (done x) h = (x, refl, done_same h)
+mapped_back f (refused number place) h = never_done (sym h)
+
+-- and so was one that is refused
+pub mapped_refused_back : {A B : Type 0} (f : A → B) (a : Answer A) {number place : ℕ} → refused number place ≡ mapped f a → a ≡ refused number place
+unfolding mapped
+mapped_refused_back f (done x) h = never_done h
+mapped_refused_back f (refused x y) {number} {place} h =
+    let same_number : x ≡ number = cc in let same_place : y ≡ place = cc in ap₂ refused same_number same_place
+
+-- Whether a call was done, asked of its result.
+
+-- it was, with what it gave
+pub ok_given : {A : Type 0} (r : Result A Refusal) → is_ok r ≡ true → (x : A) × (meaning r ≡ done x)
+ok_given (Ok x) h = (x, refl)
+ok_given (Err e) h = cc
+
+-- it was not, with its refusal
+pub err_given : {A : Type 0} (r : Result A Refusal) → is_ok r ≡ false → (e : Refusal) × (meaning r ≡ refused (reason_number e.reason) e.place)
+err_given (Ok x) h = cc
+err_given (Err e) h = (e, refl)

@@ -1,12 +1,14 @@
 -- Laws of the order of whole numbers, of values and of numbers, case by case.
 -- Assumes nothing.
 use Rattle.std.proofs.Common.{◌≡◌, ℕ, ◌-◌, ◌*◌, ◌^◌, ◌<◌, ◌≤◌, Bool, true, false, ◌⊎◌, sym, refl, ap, ◌∙◌, inl, inr, ⊎_elim, mul-lt-mul_of_pos_right, arith, le-ltb, lt-ltb}
+use Rattle.std.specs.Ordering.{ordering_then}
+use Rattle.std.specs.Cmp.{nat_cmp_is}
 use Rattle.decimal.specs.declared.number.Number.{Number}
-use Rattle.decimal.specs.declared.comparison.Order.{Order}
-use Rattle.decimal.specs.declared.comparison.Order.TheVariants.{Less, Equal, Greater}
+use Rattle.std.specs.declared.cmp.Ordering.{Ordering}
+use Rattle.std.specs.declared.cmp.Ordering.TheVariants.{Less, Equal, Greater}
 use Rattle.decimal.specs.Answer.{done, refused, ◌then◌}
 use Rattle.decimal.specs.Digits.{precision}
-use Rattle.decimal.specs.Number.{normal, magnitude}
+use Rattle.decimal.specs.Number.{normal, magnitude, check_number}
 use Rattle.decimal.specs.Comparison.{whole_order, signed_order, value_order, comparison}
 use Rattle.decimal.proofs.PowerLaws.{pow10_pos}
 use Rattle.decimal.proofs.DigitLaws.{le_or_lt}
@@ -22,18 +24,15 @@ three_ways a b = ⊎_elim (λ h. ⊎_elim (λ g. inr (inl (omega arith))) inl (l
 module _ (a b : ℕ) where
   pub whole_less : a < b → whole_order a b ≡ Less
   unfolding whole_order
-  whole_less h = rw (lt-ltb a b h)
+  whole_less h = sym (nat_cmp_is a b Less h)
 
   pub whole_greater : b < a → whole_order a b ≡ Greater
   unfolding whole_order
-  whole_greater h = let g : b ≤ a = omega arith in rw (le-ltb a b g, lt-ltb b a h)
+  whole_greater h = sym (nat_cmp_is a b Greater h)
 
   pub whole_equal : a ≡ b → whole_order a b ≡ Equal
   unfolding whole_order
-  whole_equal h =
-      let g : b ≤ a = omega arith in
-      let l : a ≤ b = omega arith in
-      rw (le-ltb a b g, le-ltb b a l)
+  whole_equal h = sym (nat_cmp_is a b Equal h)
 
 -- a positive factor does not change the order
 pub whole_scaled : (a b k : ℕ) → 0 < k → whole_order (a * k) (b * k) ≡ whole_order a b
@@ -71,17 +70,23 @@ module _ (a b : Number) where
   unfolding comparison ◌then◌
   compared h g = rw (check_normal a 0 h, check_normal b 1 g)
 
-  -- any others are refused
-  pub first_abnormal : normal a ≡ false → comparison a b ≡ refused 3 0
+  -- any others are refused, as their checks are
+  pub first_refused : {number place : ℕ} → check_number 0 a ≡ refused number place → comparison a b ≡ refused number place
   unfolding comparison ◌then◌
-  first_abnormal h = rw (check_abnormal a 0 h)
+  first_refused h = rw h
 
-  pub second_abnormal : normal a ≡ true → normal b ≡ false → comparison a b ≡ refused 3 1
+  pub second_refused : {number place : ℕ} → normal a ≡ true → check_number 1 b ≡ refused number place → comparison a b ≡ refused number place
   unfolding comparison ◌then◌
-  second_abnormal h g = rw (check_normal a 0 h, check_abnormal b 1 g)
+  second_refused h g = rw (check_normal a 0 h, g)
+
+  first_abnormal : normal a ≡ false → comparison a b ≡ refused 3 0
+  first_abnormal h = first_refused (check_abnormal a 0 h)
+
+  second_abnormal : normal a ≡ true → normal b ≡ false → comparison a b ≡ refused 3 1
+  second_abnormal h g = second_refused h (check_abnormal b 1 g)
 
 -- what has an order is in normal form
-pub compared_back : (a b : Number) {o : Order} → comparison a b ≡ done o → (normal a ≡ true) × (normal b ≡ true) × (value_order a b ≡ o)
+pub compared_back : (a b : Number) {o : Ordering} → comparison a b ≡ done o → (normal a ≡ true) × (normal b ≡ true) × (value_order a b ≡ o)
 compared_back a b {o} e = first (normal a) refl
   where
     second : normal a ≡ true → (t : Bool) → normal b ≡ t → (normal a ≡ true) × (normal b ≡ true) × (value_order a b ≡ o)
@@ -119,6 +124,14 @@ module _ (a b : Number) (h : normal a ≡ true) (g : normal b ≡ true) where
   pub some_and_zero : (a.mantissa ≡ 0 → ⊥) → b.mantissa ≡ 0 → whole_order (magnitude a) (magnitude b) ≡ Greater
   some_and_zero s z = whole_greater (magnitude a) (magnitude b) (omega (arith, some_magnitude a h s, none_magnitude b g z))
 
+  -- so where one is zero the mantissas decide
+  pub zero_decides :
+      (a.mantissa ≡ 0) ⊎ ((a.mantissa ≡ 0 → ⊥) × (b.mantissa ≡ 0)) → whole_order a.mantissa b.mantissa ≡ whole_order (magnitude a) (magnitude b)
+  zero_decides =
+      ⊎_elim
+      (λ z. ap (λ (m : ℕ). whole_order m b.mantissa) z ∙ sym (zero_magnitudes z))
+      (λ w. whole_greater a.mantissa b.mantissa (omega arith) ∙ sym (some_and_zero w.0 w.1))
+
   module _ (s : a.mantissa ≡ 0 → ⊥) (t : b.mantissa ≡ 0 → ⊥) where
     -- the larger exponent has the larger magnitude
     pub exponent_less : a.exponent < b.exponent → whole_order (magnitude a) (magnitude b) ≡ Less
@@ -139,3 +152,14 @@ module _ (a b : Number) (h : normal a ≡ true) (g : normal b ≡ true) where
   exponent_equal e =
       ap (λ (k : ℕ). whole_order (a.mantissa * 10 ^ k) (b.mantissa * 10 ^ b.exponent)) e
       ∙ whole_scaled a.mantissa b.mantissa (10 ^ b.exponent) (pow10_pos b.exponent)
+
+  -- so the exponents decide, and of equal ones the mantissas
+  pub exponents_first :
+      (a.mantissa ≡ 0 → ⊥) → (b.mantissa ≡ 0 → ⊥) → ordering_then (whole_order a.exponent b.exponent) (whole_order a.mantissa b.mantissa) ≡ whole_order (magnitude a) (magnitude b)
+  exponents_first s t =
+      ⊎_elim
+      (λ l. rw (whole_less a.exponent b.exponent l) (sym (exponent_less s t l)))
+      (⊎_elim
+      (λ e. rw (whole_equal a.exponent b.exponent e) (sym (exponent_equal e)))
+      (λ l. rw (whole_greater a.exponent b.exponent l) (sym (exponent_greater s t l))))
+      (three_ways a.exponent b.exponent)

@@ -3,8 +3,8 @@
 use Rattle.std.proofs.Common.{◌≡◌, ℕ, Bool, true, false, leb, ◌⊎◌, sym, refl, ap, ◌∙◌, inl, inr, ⊎_elim, arith, le-leb, leb-true}
 use borrow.Author.Tests.{lt-leb}
 use Rattle.decimal.specs.declared.number.Number.{Number}
-use Rattle.decimal.specs.declared.comparison.Order.{Order}
-use Rattle.decimal.specs.declared.comparison.Order.TheVariants.{Less, Equal, Greater}
+use Rattle.std.specs.declared.cmp.Ordering.{Ordering}
+use Rattle.std.specs.declared.cmp.Ordering.TheVariants.{Less, Equal, Greater}
 use Rattle.decimal.specs.Answer.{Answer, done}
 use Rattle.decimal.specs.Number.{normal, magnitude}
 use Rattle.decimal.specs.Comparison.{whole_order, signed_order, value_order, comparison, opposite, is_at_most}
@@ -115,7 +115,7 @@ order_transitive a b c h g = signed_transitive a.negative b.negative c.negative 
 pub order_total : (a b : Number) → (is_at_most (value_order a b) ≡ true) ⊎ (is_at_most (value_order b a) ≡ true)
 order_total a b = total (value_order a b) refl
   where
-    total : (o : Order) → value_order a b ≡ o → (is_at_most (value_order a b) ≡ true) ⊎ (is_at_most (value_order b a) ≡ true)
+    total : (o : Ordering) → value_order a b ≡ o → (is_at_most (value_order a b) ≡ true) ⊎ (is_at_most (value_order b a) ≡ true)
     total Less e = inl (ap is_at_most e)
     total Equal e = inl (ap is_at_most e)
     total Greater e = inr (ap is_at_most (order_opposite a b ∙ ap opposite e))
@@ -129,12 +129,12 @@ answers_opposite a b = (there, back)
     there : comparison a b ≡ done Less → comparison b a ≡ done Greater
     there e =
         let c = compared_back a b e in
-        compared b a c.1 c.0 ∙ ap {B = Answer Order} done ((less_greater a b).0 c.2)
+        compared b a c.1 c.0 ∙ ap {B = Answer Ordering} done ((less_greater a b).0 c.2)
 
     back : comparison b a ≡ done Greater → comparison a b ≡ done Less
     back e =
         let c = compared_back b a e in
-        compared a b c.1 c.0 ∙ ap {B = Answer Order} done ((less_greater a b).1 c.2)
+        compared a b c.1 c.0 ∙ ap {B = Answer Ordering} done ((less_greater a b).1 c.2)
 
 -- an answer is Equal exactly where the two are the same number in normal form
 pub answers_same : (a b : Number) → (comparison a b ≡ done Equal → (normal a ≡ true) × (a ≡ b)) × ((normal a ≡ true) × (a ≡ b) → comparison a b ≡ done Equal)
@@ -146,4 +146,4 @@ answers_same a b = (there, back)
     back : (normal a ≡ true) × (a ≡ b) → comparison a b ≡ done Equal
     back h =
         let same : comparison a b ≡ comparison a a = ap (comparison a) (sym h.1) in
-        same ∙ compared a a h.0 h.0 ∙ ap {B = Answer Order} done (order_itself a)
+        same ∙ compared a a h.0 h.0 ∙ ap {B = Answer Ordering} done (order_itself a)

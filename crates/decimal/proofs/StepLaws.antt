@@ -1,89 +1,48 @@
 -- The laws of the reader's loop, which reads a run of # signs in one step: such a run leads to one state, and all of it counts there.
 -- Assumes nothing.
-use Rattle.std.proofs.Common.{◌≡◌, ℕ, zero, suc, ◌+◌, ◌*◌, ◌<◌, ◌≤◌, Bool, true, false, eqb, ◌⊎◌, List, [], ◌∷◌, length, get_or, drop, sym, refl, ap, ◌∙◌, inl, inr, mul-zero, mul-one, add-one, arith, length-drop, drop_of_length-le, drop-cons, eq-eqb, ne_eqb}
-use borrow.Author.Tests.{eqb-false}
+use Rattle.std.proofs.Common.{◌≡◌, ℕ, suc, ◌+◌, ◌-◌, ◌*◌, ◌<◌, ◌≤◌, Bool, true, false, eqb, List, [], ◌∷◌, length, get_or, drop, sym, refl, ap, ◌∙◌, max, cond, ◌==◌, arith, length-drop}
+use Rattle.std.proofs.Math.Nat.{mul-le-mul_left}
+use Rattle.std.specs.List.{prefix_len}
+use Rattle.std.proofs.lemmas.List.Sums.{prefix_len-le-length}
+use borrow.Author.Tests.{eqb-true}
 use Rattle.decimal.specs.declared.image.Scan.{Scan}
 use Rattle.decimal.specs.Answer.{pick}
 use Rattle.decimal.specs.Image.{State, Start, Signed, Integer, Comma, Point, Fraction, Up, Stopped, state_of, hash_byte}
-use Rattle.decimal.specs.Image.{next_state, run_state, integer_hash, fraction_hash, counted, integers_from, fractions_from, hashes_in, step_length, Scanned}
+use Rattle.decimal.specs.Image.{next_state, run_state, integer_hash, fraction_hash, counted, integers_from, fractions_from, leading_run, hashes_in, Scanned}
 use Rattle.decimal.proofs.ImageLaws.{hash_once}
-use Rattle.decimal.proofs.ImageTails.{key}
-use Rattle.decimal.proofs.BoolLaws.{zero_or_not}
+
+-- the bytes of one value that bytes begin with, in the library's words
+pub run_prefix : (byte : ℕ) (bytes : List ℕ) → prefix_len (λ b. b == byte) bytes ≡ leading_run byte bytes
+run_prefix byte [] = refl
+run_prefix byte (b ∷ bs) = go (b == byte) (run_prefix byte bs)
+  where
+    go : (test : Bool) {m n : ℕ} → m ≡ n → cond test (1 + m) 0 ≡ pick test (suc n) 0
+    go true e = omega arith
+    go false e = refl
+
+-- they are within the bytes
+pub run_inside : (byte : ℕ) (bytes : List ℕ) → leading_run byte bytes ≤ length bytes
+run_inside byte bytes = rw (← run_prefix byte bytes) (prefix_len-le-length (λ b. b == byte) bytes)
 
 -- The reader's loop: what was read and what is left make the whole.
 
--- the state and the counts after so many bytes
-pub record Reading (bytes : List ℕ) (state : State) (before behind done-to : ℕ) : Type 0 where
-  pub inside : done-to ≤ length bytes
-  pub few : before + behind ≤ done-to
-  pub ends : run_state state (drop done-to bytes) ≡ run_state Start bytes
-  pub integers : before + integers_from state (drop done-to bytes) ≡ integers_from Start bytes
-  pub fractions : behind + fractions_from state (drop done-to bytes) ≡ fractions_from Start bytes
+-- the state and the counts before the bytes that are left
+pub record Reading (bytes : List ℕ) (state : State) (before behind : ℕ) (rest : List ℕ) : Type 0 where
+  pub few : before + behind + length rest ≤ length bytes
+  pub ends : run_state state rest ≡ run_state Start bytes
+  pub integers : before + integers_from state rest ≡ integers_from Start bytes
+  pub fractions : behind + fractions_from state rest ≡ fractions_from Start bytes
 
 -- before the first byte
-pub reading_starts : (bytes : List ℕ) → Reading bytes Start 0 0 0
-reading_starts bytes = record { inside = omega arith; few = omega arith; ends = refl; integers = omega arith; fractions = omega arith }
-
--- what a # adds
-pub count_one : (t : Bool) (n c r : ℕ) → r ≡ counted t 0 → (n + r) + c ≡ n + counted t c
-count_one true n c r e = omega arith
-count_one false n c r e = omega arith
-
--- one byte further
-pub reading_turns : {bytes : List ℕ} {s t : State} {before behind n i f : ℕ} → Reading bytes s before behind n → n < length bytes
-    → t ≡ next_state s (get_or bytes n 0) → i ≡ counted (integer_hash t) 0 → f ≡ counted (fraction_hash t) 0
-    → Reading bytes t (before + i) (behind + f) (n + 1)
-unfolding run_state integers_from fractions_from
-reading_turns {bytes} {s} {t} {before} {behind} {n} {i} {f} r h e p q =
-    let o = hash_once t p q in
-    let rest : List ℕ = drop (n + 1) bytes in
-    let left : get_or bytes n 0 ∷ rest ≡ drop n bytes = sym (rw (add-one, drop-cons bytes n 0)) in
-    record {
-      inside = omega arith;
-      few = omega arith;
-      ends = ap (λ (x : State). run_state x rest) e ∙ ap (run_state s) left ∙ r.ends;
-      integers =
-          count_one (integer_hash t) before (integers_from t rest) i p
-          ∙ ap (λ (x : State). before + counted (integer_hash x) (integers_from x rest)) e
-          ∙ ap (λ (l : List ℕ). before + integers_from s l) left
-          ∙ r.integers;
-      fractions =
-          count_one (fraction_hash t) behind (fractions_from t rest) f q
-          ∙ ap (λ (x : State). behind + counted (fraction_hash x) (fractions_from x rest)) e
-          ∙ ap (λ (l : List ℕ). behind + fractions_from s l) left
-          ∙ r.fractions;
-    }
+pub reading_starts : (bytes : List ℕ) → Reading bytes Start 0 0 bytes
+reading_starts bytes = record { few = omega arith; ends = refl; integers = omega arith; fractions = omega arith }
 
 -- behind the last byte
-pub reading_ends : {bytes : List ℕ} {scan : Scan} {n : ℕ} → Reading bytes (state_of scan.state) scan.integer scan.fraction n
-    → length bytes ≤ n → Scanned bytes scan
+pub reading_ends : {bytes : List ℕ} {scan : Scan} (rest : List ℕ) → Reading bytes (state_of scan.state) scan.integer scan.fraction rest
+    → length rest ≡ 0 → Scanned bytes scan
 unfolding run_state integers_from fractions_from
-reading_ends {bytes} {scan} {n} r h =
-    let s = state_of scan.state in
-    let none : drop n bytes ≡ [] = drop_of_length-le bytes h in
-    record {
-      ended = sym (ap (run_state s) none) ∙ r.ends;
-      integers = sym (ap (λ (l : List ℕ). scan.integer + integers_from s l) none ∙ omega arith) ∙ r.integers;
-      fractions = sym (ap (λ (l : List ℕ). scan.fraction + fractions_from s l) none ∙ omega arith) ∙ r.fractions;
-    }
-
--- The # signs from a place on.
-
-module _ (bytes : List ℕ) (place : ℕ) where
-  -- there are none at the end
-  pub hashes_end : length bytes ≤ place → hashes_in (drop place bytes) ≡ 0
-  unfolding hashes_in
-  hashes_end h = ap hashes_in (drop_of_length-le bytes h)
-
-  -- a # is one more than those behind it
-  pub hashes_more : place < length bytes → get_or bytes place 0 ≡ hash_byte → hashes_in (drop place bytes) ≡ suc (hashes_in (drop (place + 1) bytes))
-  unfolding hashes_in
-  hashes_more h e = rw (add-one place, drop-cons bytes place 0 h, eq-eqb (get_or bytes place 0) hash_byte e)
-
-  -- another byte ends them
-  pub hashes_other : place < length bytes → (get_or bytes place 0 ≡ hash_byte → ⊥) → hashes_in (drop place bytes) ≡ 0
-  unfolding hashes_in
-  hashes_other h e = rw (drop-cons bytes place 0 h, ne_eqb (get_or bytes place 0) hash_byte e)
+reading_ends [] r h = record { ended = r.ends; integers = omega (arith, r.integers); fractions = omega (arith, r.fractions) }
+reading_ends (b ∷ bs) r h = absurd (omega arith)
 
 -- a # behind a # leads nowhere else
 hash_again : (s : State) → next_state (next_state s hash_byte) hash_byte ≡ next_state s hash_byte
@@ -97,124 +56,79 @@ hash_again (Fraction g) = refl
 hash_again (Up n) = refl
 hash_again Stopped = refl
 
--- where bytes begin with a #, that is the next byte
-hash_there : (bytes : List ℕ) (place : ℕ) → place < length bytes → 0 < hashes_in (drop place bytes) → get_or bytes place 0 ≡ hash_byte
-hash_there bytes place h some = go (key (get_or bytes place 0) hash_byte)
+-- one more where a state counts
+count_one : (test : Bool) (n : ℕ) {i : ℕ} → i ≡ counted test 0 → counted test n ≡ i + n
+count_one true n e = omega arith
+count_one false n e = omega arith
+
+-- so many bytes are read in one state, and each of them counts there
+record Passed (t : State) (i f k : ℕ) (bs : List ℕ) : Type 0 where
+  inside : k ≤ length bs
+  ends : run_state t (drop k bs) ≡ run_state t bs
+  integers : k * i + integers_from t (drop k bs) ≡ integers_from t bs
+  fractions : k * f + fractions_from t (drop k bs) ≡ fractions_from t bs
+
+-- no byte
+passed_none : (t : State) (i f : ℕ) (bs : List ℕ) → Passed t i f 0 bs
+passed_none t i f bs = record { inside = omega arith; ends = refl; integers = omega arith; fractions = omega arith }
+
+-- the # signs that bytes begin with, in a state where a # leads nowhere else
+passed_hashes : {t : State} {i f : ℕ} → i ≡ counted (integer_hash t) 0 → f ≡ counted (fraction_hash t) 0 → next_state t hash_byte ≡ t
+    → (bs : List ℕ) → Passed t i f (hashes_in bs) bs
+unfolding run_state integers_from fractions_from
+passed_hashes {t} {i} {f} p q stays [] = passed_none t i f []
+passed_hashes {t} {i} {f} p q stays (b ∷ bs) = go (eqb b hash_byte) refl (passed_hashes p q stays bs)
   where
-    go : (get_or bytes place 0 ≡ hash_byte) ⊎ (eqb (get_or bytes place 0) hash_byte ≡ false) → get_or bytes place 0 ≡ hash_byte
-    go (inl e) = e
-    go (inr n) = absurd (omega (arith, hashes_other bytes place h (eqb-false _ _ n)))
+    go : (test : Bool) → eqb b hash_byte ≡ test → Passed t i f (hashes_in bs) bs → Passed t i f (pick test (suc (hashes_in bs)) 0) (b ∷ bs)
+    go false e r = passed_none t i f (b ∷ bs)
+    go true e r =
+        let same : next_state t b ≡ t = ap (next_state t) (eqb-true b hash_byte e) ∙ stays in
+        record {
+          inside = omega (arith, r.inside);
+          ends = r.ends ∙ ap (λ (x : State). run_state x bs) (sym same);
+          integers = rw same (omega (arith, count_one (integer_hash t) (integers_from t bs) p, r.integers));
+          fractions = rw same (omega (arith, count_one (fraction_hash t) (fractions_from t bs) q, r.fractions));
+        }
 
--- the # signs that bytes begin with are within them
-hashes_inside : (bytes : List ℕ) → hashes_in bytes ≤ length bytes
-unfolding hashes_in
-hashes_inside [] = omega arith
-hashes_inside (b ∷ bs) = go (eqb b hash_byte) (hashes_inside bs)
+-- what a step leaves
+pub record Stepped (bytes : List ℕ) (t : State) (before behind k i f : ℕ) (rest : List ℕ) : Type 0 where
+  pub inside : k ≤ length rest
+  pub few : before + k * i + (behind + k * f) ≤ length bytes
+  pub reading : Reading bytes t (before + k * i) (behind + k * f) (drop k rest)
+
+-- one step further: the # signs that stand there, or one byte
+pub reading_steps : {bytes : List ℕ} {s t : State} {before behind k i f : ℕ} (rest : List ℕ)
+    → Reading bytes s before behind rest
+    → 0 < length rest
+    → t ≡ next_state s (get_or rest 0 0)
+    → k ≡ max (hashes_in rest) 1
+    → i ≡ counted (integer_hash t) 0
+    → f ≡ counted (fraction_hash t) 0
+    → Stepped bytes t before behind k i f rest
+unfolding run_state integers_from fractions_from
+reading_steps [] r h e l p q = absurd (omega arith)
+reading_steps {bytes} {s} {t} {before} {behind} {k} {i} {f} (b ∷ bs) r h e l p q = go (eqb b hash_byte) refl l
   where
-    go : (t : Bool) {k n : ℕ} → k ≤ n → pick t (suc k) 0 ≤ suc n
-    go true h = omega arith
-    go false h = omega arith
+    step : (m : ℕ) → k ≡ suc m → Passed t i f m bs → Stepped bytes t before behind k i f (b ∷ bs)
+    step m is passed =
+        let few : k * (i + f) ≤ k * 1 = mul-le-mul_left {m = i + f} {n = 1} k (hash_once t p q) in
+        let left : length (drop k (b ∷ bs)) ≡ length bs - m = rw is (length-drop m bs) in
+        let ends : run_state t (drop k (b ∷ bs)) ≡ run_state Start bytes = rw is (passed.ends ∙ ap (λ (x : State). run_state x bs) e ∙ r.ends) in
+        let ahead : integers_from s (b ∷ bs) ≡ i + integers_from t bs = rw (← e) (count_one (integer_hash t) (integers_from t bs) p) in
+        let aside : fractions_from s (b ∷ bs) ≡ f + fractions_from t bs = rw (← e) (count_one (fraction_hash t) (fractions_from t bs) q) in
+        record {
+          inside = omega (arith, passed.inside);
+          few = omega (arith, r.few, passed.inside);
+          reading = record {
+            few = omega (arith, r.few, passed.inside);
+            ends = ends;
+            integers = rw is (omega (arith, passed.integers, r.integers));
+            fractions = rw is (omega (arith, passed.fractions, r.fractions));
+          };
+        }
 
--- the same state and place, the counts and the place written otherwise
-reading_as : {bytes : List ℕ} {s : State} {a b n c d m : ℕ} → Reading bytes s a b n → a ≡ c → b ≡ d → n ≡ m → Reading bytes s c d m
-reading_as r p q e = rw (← p, ← q, ← e) r
-
--- what a run of # signs adds
-count_run : (t : Bool) (n k i : ℕ) → i ≡ counted t 0 → (n + i) + pick t k 0 ≡ n + pick t (suc k) 0
-count_run true n k i e = omega arith
-count_run false n k i e = omega arith
-
--- one # alone
-count_alone : (t : Bool) (n i : ℕ) → i ≡ counted t 0 → n + i ≡ n + pick t 1 0
-count_alone true n i e = omega arith
-count_alone false n i e = omega arith
-
-module _ {bytes : List ℕ} {t : State} {i f : ℕ} (p : i ≡ counted (integer_hash t) 0) (q : f ≡ counted (fraction_hash t) 0) where
-  -- so many # signs further
-  reading_hashes : (k : ℕ) {s : State} {before behind n : ℕ} → Reading bytes s before behind n → n < length bytes
-      → k < hashes_in (drop n bytes) → t ≡ next_state s hash_byte
-      → Reading bytes t (before + pick (integer_hash t) (suc k) 0) (behind + pick (fraction_hash t) (suc k) 0) (n + suc k)
-  reading_hashes zero {s} {before} {behind} {n} r h l e =
-      let there = hash_there bytes n h (omega arith) in
-      reading_as (reading_turns r h (e ∙ ap (next_state s) (sym there)) p q)
-      (count_alone (integer_hash t) before i p)
-      (count_alone (fraction_hash t) behind f q)
-      refl
-  reading_hashes (suc k) {s} {before} {behind} {n} r h l e =
-      let there = hash_there bytes n h (omega arith) in
-      let next = reading_turns r h (e ∙ ap (next_state s) (sym there)) p q in
-      let more = hashes_more bytes n h there in
-      let stays : t ≡ next_state t hash_byte = e ∙ sym (hash_again s) ∙ ap (λ (x : State). next_state x hash_byte) (sym e) in
-      let room : n + 1 < length bytes = omega (arith, hashes_inside (drop n bytes), length-drop n bytes) in
-      reading_as (reading_hashes k next room (omega (arith, more)) stays)
-      (count_run (integer_hash t) before (suc k) i p)
-      (count_run (fraction_hash t) behind (suc k) f q)
-      (omega arith)
-
--- a state's count times a step
-step_count : (b : Bool) (k j : ℕ) → j ≡ counted b 0 → k * j ≡ pick b k 0
-step_count true k j e = rw e (mul-one k)
-step_count false k j e = rw e (mul-zero k)
-
--- a step over another byte is one byte
-pub step_one : (bytes : List ℕ) → hashes_in bytes ≡ 0 → step_length bytes ≡ 1
-unfolding step_length
-step_one bytes e = rw (eq-eqb (hashes_in bytes) 0 e)
-
--- a step over # signs is all of them
-pub step_hashes : (bytes : List ℕ) → (hashes_in bytes ≡ 0 → ⊥) → step_length bytes ≡ hashes_in bytes
-unfolding step_length
-step_hashes bytes n = rw (ne_eqb (hashes_in bytes) 0 n)
-
-module _ {bytes : List ℕ} {s t : State} {before behind n k i f : ℕ} (r : Reading bytes s before behind n) (h : n < length bytes)
-    (e : t ≡ next_state s (get_or bytes n 0)) (z : k ≡ step_length (drop n bytes))
-    (p : i ≡ counted (integer_hash t) 0) (q : f ≡ counted (fraction_hash t) 0) where
-  -- one step further, the counts as they are picked
-  picked : Reading bytes t (before + pick (integer_hash t) k 0) (behind + pick (fraction_hash t) k 0) (n + k)
-  picked = go (zero_or_not (hashes_in (drop n bytes)))
-    where
-      one : k ≡ 1 → Reading bytes t (before + pick (integer_hash t) k 0) (behind + pick (fraction_hash t) k 0) (n + k)
-      one w =
-          rw w
-          (reading_as (reading_turns r h e p q) (count_alone (integer_hash t) before i p) (count_alone (fraction_hash t) behind f q) refl)
-
-      run : (m : ℕ) → k ≡ m → m ≡ hashes_in (drop n bytes) → (m ≡ 0 → ⊥)
-          → Reading bytes t (before + pick (integer_hash t) k 0) (behind + pick (fraction_hash t) k 0) (n + k)
-      run zero w l some = absurd (some refl)
-      run (suc m) w l some =
-          let there = hash_there bytes n h (omega arith) in
-          rw w (reading_hashes p q m r h (omega arith) (e ∙ ap (next_state s) there))
-
-      go : (hashes_in (drop n bytes) ≡ 0) ⊎ (hashes_in (drop n bytes) ≡ 0 → ⊥)
-          → Reading bytes t (before + pick (integer_hash t) k 0) (behind + pick (fraction_hash t) k 0) (n + k)
-      go (inl none) = one (z ∙ step_one (drop n bytes) none)
-      go (inr some) = run (hashes_in (drop n bytes)) (z ∙ step_hashes (drop n bytes) some) refl some
-
-  -- one step further
-  pub reading_steps : Reading bytes t (before + k * i) (behind + k * f) (n + k)
-  reading_steps =
-      reading_as picked (ap (λ (x : ℕ). before + x) (sym (step_count (integer_hash t) k i p)))
-      (ap (λ (x : ℕ). behind + x) (sym (step_count (fraction_hash t) k f q)))
-      refl
-
-  -- a step goes on
-  pub step_some : 0 < k
-  step_some = go (zero_or_not (hashes_in (drop n bytes)))
-    where
-      go : (hashes_in (drop n bytes) ≡ 0) ⊎ (hashes_in (drop n bytes) ≡ 0 → ⊥) → 0 < k
-      go (inl none) = omega (arith, step_one (drop n bytes) none)
-      go (inr some) = omega (arith, step_hashes (drop n bytes) some)
-
-  -- and what it adds is no more than its bytes
-  pub step_few : k * i + k * f ≤ k
-  step_few = omega (arith, step_count (integer_hash t) k i p, step_count (fraction_hash t) k f q, both t k)
-    where
-      both : (u : State) (m : ℕ) → pick (integer_hash u) m 0 + pick (fraction_hash u) m 0 ≤ m
-      both Start m = omega arith
-      both Signed m = omega arith
-      both (Integer g) m = omega arith
-      both Comma m = omega arith
-      both (Point g) m = omega arith
-      both (Fraction g) m = omega arith
-      both (Up x) m = omega arith
-      both Stopped m = omega arith
+    go : (test : Bool) → eqb b hash_byte ≡ test → k ≡ max (pick test (suc (hashes_in bs)) 0) 1 → Stepped bytes t before behind k i f (b ∷ bs)
+    go true same is =
+        let hash : t ≡ next_state s hash_byte = e ∙ ap (next_state s) (eqb-true b hash_byte same) in
+        step (hashes_in bs) (omega arith) (passed_hashes p q (rw hash (hash_again s)) bs)
+    go false other is = step 0 is (passed_none t i f bs)

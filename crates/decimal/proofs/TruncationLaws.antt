@@ -8,7 +8,7 @@ use Rattle.decimal.specs.declared.number.Number.{Number}
 use Rattle.decimal.specs.declared.image.Image.{Image}
 use Rattle.decimal.specs.Answer.{Answer, done, refused, ◌then◌, pick}
 use Rattle.decimal.specs.Digits.{precision}
-use Rattle.decimal.specs.Number.{exponent_limit, zero_number, normal, magnitude, unit}
+use Rattle.decimal.specs.Number.{exponent_limit, zero_number, normal, magnitude, unit, check_number}
 use Rattle.decimal.specs.Image.{hashes, check_image}
 use Rattle.decimal.specs.Truncation.{is_signed, exceeds, exponent_outside, stored_exponent, Truncated, truncated_to, limited, truncation, packable, packed_truncation, Fit, kept_count}
 use Rattle.decimal.proofs.PowerLaws.{pow10_pos}
@@ -59,6 +59,12 @@ module _ (place : ℕ) (im : Image) (n : Number) where
     pub truncation_abnormal : normal n ≡ false → truncation place im n ≡ refused 3 place
     unfolding truncation ◌then◌
     truncation_abnormal h = rw (checked, check_abnormal n place h)
+
+    -- so what the number's check refuses is refused
+    pub truncation_number_refused :
+        {number at_place : ℕ} → check_number place n ≡ refused number at_place → truncation place im n ≡ refused number at_place
+    unfolding truncation ◌then◌
+    truncation_number_refused h = rw (checked, h)
 
     module _ (is_normal : normal n ≡ true) where
       -- a number in normal form is refused by its limits alone
@@ -129,6 +135,14 @@ module _ (place : ℕ) (im : Image) (n : Number) where
     pub packed_unsigned : is_signed im.sign ≡ false → exponent_limit ≤ stored_exponent im n → packed_truncation place im n ≡ done (truncated_to im n)
     unfolding packable truncated_to
     packed_unsigned h l = packed_then ∙ rw (h, le-ltb (stored_exponent im n) exponent_limit l)
+
+    -- so any image packs an x that is not negative
+    pub packed_within : exponent_limit ≤ stored_exponent im n → packed_truncation place im n ≡ done (truncated_to im n)
+    packed_within l = go (is_signed im.sign) refl
+      where
+        go : (b : Bool) → is_signed im.sign ≡ b → packed_truncation place im n ≡ done (truncated_to im n)
+        go true h = packed_signed h
+        go false h = packed_unsigned h l
 
 -- "Exceeds" by exponents.
 

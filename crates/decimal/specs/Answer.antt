@@ -1,7 +1,8 @@
 -- What a call answers: its result, or document 01's refusal number and place.
-use Rattle.std.specs.Prelude.{ℕ, Bool, true, false, List, []}
-use Rattle.decimal.specs.declared.refusal.CheckAnswer.{CheckAnswer}
-use Rattle.decimal.specs.declared.refusal.CheckAnswer.TheVariants as checks
+use Rattle.std.specs.Prelude.{ℕ, Bool, true, false, List, [], Result, Ok, Err}
+use Rattle.decimal.specs.declared.refusal.Reason.{Reason}
+use Rattle.decimal.specs.declared.refusal.Reason.TheVariants as reasons
+use Rattle.decimal.specs.declared.refusal.Refusal.{Refusal}
 
 infixl 20 ◌then◌
 pub data Answer (A : Type 0) : Type 0 where
@@ -28,7 +29,31 @@ unfoldable pub checked_only : {A : Type 0} → Answer A → Answer (Unit {0})
 checked_only (done a) = done tt
 checked_only (refused number place) = refused number place
 
--- each case of the code's answer, in document 01's numbers
-abbrev pub check_meaning : CheckAnswer → Answer (Unit {0})
-check_meaning checks.Fine = done tt
-check_meaning (checks.Refused r) = refused r.number r.place
+-- an answer with another result, made of its own
+unfoldable pub mapped : {A B : Type 0} → (A → B) → Answer A → Answer B
+mapped f (done a) = done (f a)
+mapped f (refused number place) = refused number place
+
+-- the number of each of the code's reasons, in the table "When a call says no"
+abbrev pub reason_number : Reason → ℕ
+reason_number reasons.NotAnImage = 1
+reason_number reasons.TooManyDigits = 2
+reason_number reasons.NotNormal = 3
+reason_number reasons.Exceeds = 4
+reason_number reasons.ExponentOutside = 5
+reason_number reasons.NoRoom = 6
+reason_number reasons.BadHalf = 7
+reason_number reasons.NotText = 8
+reason_number reasons.NoField = 9
+reason_number reasons.WrongCount = 10
+reason_number reasons.WrongLength = 11
+reason_number reasons.NoRecord = 12
+reason_number reasons.TextOutside = 13
+reason_number reasons.PositionsFall = 14
+reason_number reasons.RecordsFall = 15
+reason_number reasons.WrongKind = 16
+
+-- each case of what a call returns, in document 01's numbers
+abbrev pub meaning : {A : Type 0} → Result A Refusal → Answer A
+meaning (Ok a) = done a
+meaning (Err r) = refused (reason_number r.reason) r.place

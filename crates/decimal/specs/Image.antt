@@ -3,8 +3,6 @@ use Rattle.std.specs.Prelude.{◌≡◌, ℕ, zero, suc, ◌+◌, ◌<◌, ◌�
 use Rattle.decimal.specs.declared.image.Sign.{Sign}
 use Rattle.decimal.specs.declared.image.Sign.TheVariants.{Unsigned, Plus, Minus}
 use Rattle.decimal.specs.declared.image.Image.{Image}
-use Rattle.decimal.specs.declared.image.ImageAnswer.{ImageAnswer}
-use Rattle.decimal.specs.declared.image.ImageAnswer.TheVariants as gives
 use Rattle.decimal.specs.declared.image.Scan.{Scan}
 use Rattle.decimal.specs.declared.image.State.{State as CodeState}
 use Rattle.decimal.specs.declared.image.State.TheVariants as code
@@ -244,14 +242,14 @@ unfoldable pub fractions_from : State → List ℕ → ℕ
 fractions_from s [] = 0
 fractions_from s (b ∷ bs) = counted (fraction_hash (next_state s b)) (fractions_from (next_state s b) bs)
 
--- how many # signs bytes begin with
-unfoldable pub hashes_in : List ℕ → ℕ
-hashes_in [] = 0
-hashes_in (b ∷ bs) = pick (b == hash_byte) (suc (hashes_in bs)) 0
+-- how many bytes of one value bytes begin with
+abbrev pub leading_run : ℕ → List ℕ → ℕ
+leading_run byte [] = 0
+leading_run byte (b ∷ bs) = pick (b == byte) (suc (leading_run byte bs)) 0
 
--- how many bytes the code reads in one step: the # signs that bytes begin with, or one byte
-unfoldable pub step_length : List ℕ → ℕ
-step_length bytes = pick (hashes_in bytes == 0) 1 (hashes_in bytes)
+-- how many # signs bytes begin with
+abbrev pub hashes_in : List ℕ → ℕ
+hashes_in bytes = leading_run hash_byte bytes
 
 -- the sign of a byte
 abbrev pub sign_of : ℕ → Sign
@@ -292,8 +290,3 @@ pub data ReadsAs (place : ℕ) (bytes : List ℕ) : Type 0 where
   within : (im : Image) → IsImage bytes im → hashes im ≤ precision → read_image place bytes ≡ done im → ReadsAs place bytes
   too_many : (im : Image) → IsImage bytes im → precision < hashes im → read_image place bytes ≡ refused 2 place → ReadsAs place bytes
   no_image : ((im : Image) → IsImage bytes im → ⊥) → read_image place bytes ≡ refused 1 place → ReadsAs place bytes
-
--- each case of the code's answer, in document 01's numbers and values
-abbrev pub image_meaning : ImageAnswer → Answer Image
-image_meaning (gives.Image im) = done im
-image_meaning (gives.Refused r) = refused r.number r.place

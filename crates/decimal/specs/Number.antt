@@ -2,8 +2,6 @@
 use Rattle.std.specs.Prelude.{ℕ, ◌+◌, ◌-◌, ◌*◌, ◌^◌, Bool, true, false, not, ◌&&◌, ℤ, pos, negsuc, ◌+ℤ◌, ◌-ℤ◌, ◌==◌, nat_le, nat_lt}
 use Rattle.decimal.specs.declared.number.Number.{Number}
 use Rattle.decimal.specs.declared.number.Shifted.{Shifted}
-use Rattle.decimal.specs.declared.number.NumberAnswer.{NumberAnswer}
-use Rattle.decimal.specs.declared.number.NumberAnswer.TheVariants as gives
 use Rattle.decimal.specs.Answer.{Answer, done, refused, pick}
 use Rattle.decimal.specs.Digits.{precision, leading_zeros}
 
@@ -87,11 +85,6 @@ scaled_number place negative whole up down =
 -- the number of a whole count of wheel steps: 3 for 10^13 and above, also where a normal number has that magnitude, as for 10^13 itself
 abbrev pub steps_number : ℕ → Answer Number
 steps_number steps = scaled_number 0 false steps 0 0
-
--- each case of the code's answer, in document 01's numbers and values
-abbrev pub number_meaning : NumberAnswer → Answer Number
-number_meaning (gives.Number n) = done n
-number_meaning (gives.Refused r) = refused r.number r.place
 
 -- What the code's helpers find.
 

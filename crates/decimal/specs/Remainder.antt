@@ -6,8 +6,6 @@ use Rattle.std.specs.Prelude.{◌≡◌, ℕ, ◌+◌, ◌-◌, ◌*◌, ◌/◌
 use Rattle.decimal.specs.declared.number.Number.{Number}
 use Rattle.decimal.specs.declared.image.Image.{Image}
 use Rattle.decimal.specs.declared.remainder.Remainder.{Remainder}
-use Rattle.decimal.specs.declared.remainder.RemainderAnswer.{RemainderAnswer}
-use Rattle.decimal.specs.declared.remainder.RemainderAnswer.TheVariants as gives
 use Rattle.decimal.specs.Answer.{Answer, done, refused, ◌then◌, pick}
 use Rattle.decimal.specs.Digits.{precision}
 use Rattle.decimal.specs.Number.{exponent_limit, magnitude, exponent_of, scale, unit}
@@ -71,11 +69,6 @@ cut_off im n t =
 -- what truncation under an image cuts off a number; refused as truncation is
 unfoldable pub remainder : ℕ → Image → Number → Answer Remainder
 remainder place im n = truncation place im n then λ t. done (cut_off im n t)
-
--- each case of the code's answer, in document 01's numbers and document 02's remainder
-abbrev pub remainder_meaning : RemainderAnswer → Answer Remainder
-remainder_meaning (gives.Remainder r) = done r
-remainder_meaning (gives.Refused r) = refused r.number r.place
 
 -- Exactly when there is which remainder: what is proved of the definitions above.
 pub record RemainderExactly (place : ℕ) (im : Image) (n : Number) : Type 0 where

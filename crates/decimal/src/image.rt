@@ -1,5 +1,6 @@
 // Images and the state machine that reads them (document 01: Images). The scanner of print lines uses the same machine.
-ghost use Rattle.std.specs.Prelude.{◌≡◌, drop};
+ghost use Rattle.std.specs.Prelude.{◌≡◌};
+ghost use Rattle.decimal.specs.Answer.{meaning};
 ghost use Rattle.decimal.specs.Image.{
   state_of,
   after_sign,
@@ -13,46 +14,32 @@ ghost use Rattle.decimal.specs.Image.{
   fraction_hash,
   is_exponential,
   counted,
-  hashes_in,
-  step_length,
+  leading_run,
   sign_of,
   check_image,
   Scanned,
   read_image,
-  image_meaning,
 };
 
 use crate::digits::PRECISION;
-use crate::refusal::Refusal;
-
-// Refusal 1: not an image.
-pub const NOT_AN_IMAGE: u8 = 1;
-
-// Refusal 2: more than PRECISION # signs.
-pub const TOO_MANY_DIGITS: u8 = 2;
+use crate::refusal::{Reason, Refusal};
 
 // The sign that an image begins with, if any.
-#[derive(Clone, Copy)]
+#[derive(Clone, Copy, Debug, Default, PartialEq, Eq, Hash)]
 pub enum Sign {
+    #[default]
     Unsigned,
     Plus,
     Minus,
 }
 
 // An image: its sign, the counts of # before and after the point (document 01's i and f), and whether it is exponential.
-#[derive(Clone, Copy)]
+#[derive(Clone, Copy, Debug, Default, PartialEq, Eq, Hash)]
 pub struct Image {
     pub sign: Sign,
     pub integer: u8,
     pub fraction: u8,
     pub exponential: bool,
-}
-
-// An image, or why the bytes are no image.
-#[derive(Clone, Copy)]
-pub enum ImageAnswer {
-    Image(Image),
-    Refused(Refusal),
 }
 
 // What was read of a field, from its first byte.
@@ -220,63 +207,48 @@ pub fn sign_of(byte: u8) -> Sign
 
 impl Image {
     // The image itself, refused with 1 where it has no #, with 2 where it has more than PRECISION.
-    pub fn checked(self, place: usize) -> ImageAnswer
-        ensures { image_meaning result ≡ check_image place self }
+    pub fn checked(self, place: usize) -> Result<Image, Refusal>
+        ensures { meaning result ≡ check_image place self }
     {
         let count = self.integer as usize + self.fraction as usize;
         if count == 0 {
-            return ImageAnswer::Refused(Refusal {
-                number: NOT_AN_IMAGE,
+            return Err(Refusal {
+                reason: Reason::NotAnImage,
                 place,
             });
         }
         if PRECISION < count {
-            return ImageAnswer::Refused(Refusal {
-                number: TOO_MANY_DIGITS,
+            return Err(Refusal {
+                reason: Reason::TooManyDigits,
                 place,
             });
         }
-        ImageAnswer::Image(self)
+        Ok(self)
     }
 }
 
-// How many # signs stand from a place on.
-fn hash_run(bytes: &[u8], at: usize) -> usize
-    ensures { result ≡ hashes_in (drop at bytes.now) }
+// How many bytes of one value bytes begin with.
+pub fn leading_run(bytes: &[u8], byte: u8) -> usize
+    ensures { result ≡ leading_run byte bytes.now }
 {
-    let mut end = at;
-    while end < bytes.len() {
-        let byte = bytes[end];
-        if byte != b'#' {
-            return end - at;
-        }
-        end += 1;
-    }
-    end - at
-}
-
-// How many bytes from a place on are read in one step: a run of # signs, which lead to one state, or one byte.
-fn step_length(bytes: &[u8], at: usize) -> usize
-    ensures { result ≡ step_length (drop at bytes.now) }
-{
-    let run = hash_run(bytes, at);
-    if run == 0 { 1 } else { run }
+    bytes.iter().take_while(|next| **next == byte).count()
 }
 
 // What the machine has read of bytes: its last state, and the counts of # before and behind the point.
+// A # behind a # leads to no other state, so a run of # signs is read in one step.
 fn scan_bytes(bytes: &[u8]) -> Scan
     ensures { Scanned bytes.now result }
 {
     let mut state = State::Start;
     let mut integer: usize = 0;
     let mut fraction: usize = 0;
-    let mut at: usize = 0;
-    while at < bytes.len() {
-        state = next_state(state, bytes[at]);
-        let step = step_length(bytes, at);
+    let mut rest = bytes;
+    while let [first, ..] = rest {
+        state = next_state(state, *first);
+        let step = leading_run(rest, b'#').max(1);
         integer += step * integer_hash(state);
         fraction += step * fraction_hash(state);
-        at += step;
+        rest = &rest[step..];
     }
     Scan {
         state,
@@ -286,27 +258,27 @@ fn scan_bytes(bytes: &[u8]) -> Scan
 }
 
 // Bytes read as an image; refused with 1 where they are none, with 2 where there are more than PRECISION # signs.
-pub fn read_image(bytes: &[u8], place: usize) -> ImageAnswer
-    ensures { image_meaning result ≡ read_image place bytes.now }
+pub fn read_image(bytes: &[u8], place: usize) -> Result<Image, Refusal>
+    ensures { meaning result ≡ read_image place bytes.now }
 {
     let scan = scan_bytes(bytes);
     let state = scan.state;
     if is_image(state) {
         if PRECISION < scan.integer || PRECISION - scan.integer < scan.fraction {
-            return ImageAnswer::Refused(Refusal {
-                number: TOO_MANY_DIGITS,
+            return Err(Refusal {
+                reason: Reason::TooManyDigits,
                 place,
             });
         }
-        return ImageAnswer::Image(Image {
+        return Ok(Image {
             sign: sign_of(bytes[0]),
             integer: scan.integer as u8,
             fraction: scan.fraction as u8,
             exponential: is_exponential(state),
         });
     }
-    ImageAnswer::Refused(Refusal {
-        number: NOT_AN_IMAGE,
+    Err(Refusal {
+        reason: Reason::NotAnImage,
         place,
     })
 }

@@ -10,14 +10,14 @@ mod refusal;
 mod remainder;
 mod truncation;
 
-pub use comparison::{Order, OrderAnswer, compare};
+pub use comparison::compare;
 pub use digits::PRECISION;
 pub use image::{
-    Image, ImageAnswer, NOT_AN_IMAGE, Sign, State, TOO_MANY_DIGITS, fraction_hash, integer_hash,
-    is_exponential, next_state, read_image, sign_of,
+    Image, Sign, State, fraction_hash, integer_hash, is_exponential, leading_run, next_state,
+    read_image, sign_of,
 };
-pub use number::{EXPONENT_LIMIT, EXPONENT_OUTSIDE, NOT_NORMAL, Number, NumberAnswer, SCALE};
+pub use number::{EXPONENT_LIMIT, Number, SCALE};
 pub use powers::power_of_ten;
-pub use refusal::{CheckAnswer, Refusal};
-pub use remainder::{Remainder, RemainderAnswer, remainder_of};
-pub use truncation::{EXCEEDS, Truncation, fit, fit_packed, truncate, truncated};
+pub use refusal::{Reason, Refusal};
+pub use remainder::{Remainder, remainder_of};
+pub use truncation::{Truncation, fit, fit_packed, truncate, truncated};

@@ -1,12 +1,12 @@
 // The number type, its constants, its constructors and its normal-form test (document 01: Numbers).
-ghost use Rattle.std.specs.Prelude.{◌≡◌, ◌*◌, ◌^◌, ◌<◌, ◌≤◌};
+ghost use Rattle.std.specs.Prelude.{◌≡◌, ◌*◌, ◌^◌, ◌<◌, ◌≤◌, true, OnOk};
 ghost use Rattle.decimal.specs.Digits.{precision, leading_zeros};
-ghost use Rattle.decimal.specs.Answer.{Answer};
-ghost use Rattle.decimal.specs.Number.{zero_number, largest_number, normal, new_number, parts_number, scaled_number, shift_past, steps_number, number_meaning};
+ghost use Rattle.decimal.specs.Answer.{meaning};
+ghost use Rattle.decimal.specs.Number.{zero_number, largest_number, normal, check_number, new_number, parts_number, scaled_number, shift_past, steps_number};
 
 use crate::digits::PRECISION;
 use crate::powers::power_of_ten;
-use crate::refusal::Refusal;
+use crate::refusal::{Reason, Refusal};
 
 // The largest decimal exponent; the smallest is its negative.
 pub const EXPONENT_LIMIT: usize = 99;
@@ -23,12 +23,6 @@ pub(crate) const EXPONENT_TOP: usize = 2 * EXPONENT_LIMIT;
 // Every magnitude is a whole multiple of 10^-SCALE.
 pub const SCALE: usize = EXPONENT_LIMIT + (PRECISION - 1);
 
-// Refusal 3: a number not in normal form.
-pub const NOT_NORMAL: u8 = 3;
-
-// Refusal 5: an exponent outside its limits.
-pub const EXPONENT_OUTSIDE: u8 = 5;
-
 // The smallest mantissa of a nonzero number is 10^LOW_EXPONENT.
 const LOW_EXPONENT: usize = PRECISION - 1;
 
@@ -43,18 +37,20 @@ const MANTISSA_END: u64 = 10 * MANTISSA_LOW;
 
 // A number: sign, mantissa and exponent. The field exponent holds e + EXPONENT_LIMIT, where e is document 01's exponent.
 // The magnitude is mantissa * 10^(e - (PRECISION - 1)).
-#[derive(Clone, Copy)]
+#[derive(Clone, Copy, Debug, PartialEq, Eq, Hash)]
 pub struct Number {
     pub negative: bool,
     pub mantissa: u64,
     pub exponent: usize,
 }
 
-// A number, or why there is none.
-#[derive(Clone, Copy)]
-pub enum NumberAnswer {
-    Number(Number),
-    Refused(Refusal),
+impl Default for Number {
+    ghost is_default = { λ n. n ≡ zero_number };
+
+    // Zero.
+    fn default() -> Number {
+        Number::ZERO
+    }
 }
 
 impl Number {
@@ -105,31 +101,59 @@ impl Number {
         self.exponent <= EXPONENT_TOP
     }
 
+    // The number itself; refused with 3 where it is not in normal form.
+    pub fn checked(self, place: usize) -> Result<Number, Refusal>
+        ensures answer { meaning result ≡ check_number place self }
+        ensures form { OnOk result (normal self ≡ true) }
+    {
+        let normal = self.is_normal();
+        if normal {
+            Ok(self)
+        } else {
+            Err(Refusal {
+                reason: Reason::NotNormal,
+                place,
+            })
+        }
+    }
+
     // The number of a sign, a mantissa and e + EXPONENT_LIMIT; refused with 3 where that is not normal.
-    pub fn new(negative: bool, mantissa: u64, exponent: usize, place: usize) -> NumberAnswer
-        ensures { number_meaning result ≡ new_number place negative mantissa exponent }
+    pub fn new(
+        negative: bool,
+        mantissa: u64,
+        exponent: usize,
+        place: usize,
+    ) -> Result<Number, Refusal>
+        ensures { meaning result ≡ new_number place negative mantissa exponent }
     {
         let number = Number {
             negative,
             mantissa,
             exponent,
         };
-        if number.is_normal() {
-            NumberAnswer::Number(number)
-        } else {
-            refused(NOT_NORMAL, place)
-        }
+        number.checked(place)
     }
 
     // The number of a sign, a mantissa and document 01's exponent e, any value of it; refused with 3 where that is not normal.
-    pub fn from_parts(negative: bool, mantissa: u64, exponent: i64, place: usize) -> NumberAnswer
-        ensures { number_meaning result ≡ parts_number place negative mantissa exponent }
+    pub fn from_parts(
+        negative: bool,
+        mantissa: u64,
+        exponent: i64,
+        place: usize,
+    ) -> Result<Number, Refusal>
+        ensures { meaning result ≡ parts_number place negative mantissa exponent }
     {
         if exponent < EXPONENT_LOW {
-            return refused(NOT_NORMAL, place);
+            return Err(Refusal {
+                reason: Reason::NotNormal,
+                place,
+            });
         }
         if EXPONENT_HIGH < exponent {
-            return refused(NOT_NORMAL, place);
+            return Err(Refusal {
+                reason: Reason::NotNormal,
+                place,
+            });
         }
         Number::new(
             negative,
@@ -141,25 +165,40 @@ impl Number {
 
     // The number with the magnitude whole * 10^up / 10^down, in normal form; zero is plus whatever the sign.
     // Refused with 3 where whole has more than PRECISION digits, zeros at its end too, with 5 where e is outside its limits.
-    pub fn from_scaled(negative: bool, whole: u64, up: u16, down: u16, place: usize) -> NumberAnswer
-        ensures { number_meaning result ≡ scaled_number place negative whole up down }
+    pub fn from_scaled(
+        negative: bool,
+        whole: u64,
+        up: u16,
+        down: u16,
+        place: usize,
+    ) -> Result<Number, Refusal>
+        ensures { meaning result ≡ scaled_number place negative whole up down }
     {
         if MANTISSA_END <= whole {
-            return refused(NOT_NORMAL, place);
+            return Err(Refusal {
+                reason: Reason::NotNormal,
+                place,
+            });
         }
         if whole == 0 {
-            return NumberAnswer::Number(Number::ZERO);
+            return Ok(Number::ZERO);
         }
         let shifted = shift_left(whole);
         let high = SCALE + up as usize;
         let low = down as usize + shifted.zeros;
         if high < low {
-            return refused(EXPONENT_OUTSIDE, place);
+            return Err(Refusal {
+                reason: Reason::ExponentOutside,
+                place,
+            });
         }
         if EXPONENT_TOP < high - low {
-            return refused(EXPONENT_OUTSIDE, place);
+            return Err(Refusal {
+                reason: Reason::ExponentOutside,
+                place,
+            });
         }
-        NumberAnswer::Number(Number {
+        Ok(Number {
             negative,
             mantissa: shifted.mantissa,
             exponent: high - low,
@@ -167,18 +206,11 @@ impl Number {
     }
 
     // The number of a whole count of wheel steps, exact below 10^PRECISION; any other count is refused with 3.
-    pub fn from_steps(steps: u64) -> NumberAnswer
-        ensures { number_meaning result ≡ steps_number steps }
+    pub fn from_steps(steps: u64) -> Result<Number, Refusal>
+        ensures { meaning result ≡ steps_number steps }
     {
         Number::from_scaled(false, steps, 0, 0, 0)
     }
-}
-
-// The answer of a refused call.
-fn refused(number: u8, place: usize) -> NumberAnswer
-    ensures { number_meaning result ≡ Answer.refused number place }
-{
-    NumberAnswer::Refused(Refusal { number, place })
 }
 
 // A whole number multiplied by a power of ten: the product, and the exponent of that power.

@@ -1,28 +1,22 @@
 // What truncation cuts off a number (document 02, (ii)).
 ghost use Rattle.std.specs.Prelude.{◌≡◌, ◌-◌, ◌%◌, ◌^◌, ◌<◌, ◌≤◌};
+ghost use Rattle.decimal.specs.Answer.{meaning};
 ghost use Rattle.decimal.specs.Digits.{precision};
-ghost use Rattle.decimal.specs.Remainder.{remainder, remainder_meaning};
+ghost use Rattle.decimal.specs.Remainder.{remainder, zero_remainder};
 
 use crate::digits::PRECISION;
 use crate::image::Image;
 use crate::number::{Number, SCALE};
 use crate::powers::power_of_ten;
-use crate::refusal::{CheckAnswer, Refusal};
+use crate::refusal::Refusal;
 use crate::truncation::{fit, kept_count};
 
 // The exact remainder of a number under an image: truncated magnitude plus r * 10^power is the magnitude. The field whole holds document
 // 02's r, which is below 10^PRECISION; the field power holds power + SCALE, where power is e - (PRECISION - 1).
-#[derive(Clone, Copy)]
+#[derive(Clone, Copy, Debug, PartialEq, Eq, Hash)]
 pub struct Remainder {
     pub whole: u64,
     pub power: usize,
-}
-
-// A remainder, or why there is none.
-#[derive(Clone, Copy)]
-pub enum RemainderAnswer {
-    Remainder(Remainder),
-    Refused(Refusal),
 }
 
 impl Remainder {
@@ -31,6 +25,15 @@ impl Remainder {
         whole: 0,
         power: SCALE,
     };
+}
+
+impl Default for Remainder {
+    ghost is_default = { λ r. r ≡ zero_remainder };
+
+    // The remainder of zero.
+    fn default() -> Remainder {
+        Remainder::ZERO
+    }
 }
 
 // The part of a mantissa below a unit: what is left of it without its whole part in that unit.
@@ -50,23 +53,17 @@ fn last_digits(mantissa: u64, count: usize) -> u64
 }
 
 // What truncation under an image cuts off a number: r and its power, which is 0 for the number zero alone; refused as fit is.
-pub fn remainder_of(image: Image, number: Number, place: usize) -> RemainderAnswer
-    ensures { remainder_meaning result ≡ remainder place image number }
+pub fn remainder_of(image: Image, number: Number, place: usize) -> Result<Remainder, Refusal>
+    ensures { meaning result ≡ remainder place image number }
 {
-    if let CheckAnswer::Refused(refusal) = fit(image, number, place) {
-        return RemainderAnswer::Refused(refusal);
-    }
+    fit(image, number, place)?;
     let count = kept_count(image, number);
     let mantissa = number.mantissa;
     let whole = last_digits(mantissa, count);
-    if mantissa == 0 {
-        return RemainderAnswer::Remainder(Remainder {
-            whole,
-            power: SCALE,
-        });
-    }
-    RemainderAnswer::Remainder(Remainder {
-        whole,
-        power: number.exponent,
-    })
+    let power = if mantissa == 0 {
+        SCALE
+    } else {
+        number.exponent
+    };
+    Ok(Remainder { whole, power })
 }

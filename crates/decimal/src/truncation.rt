@@ -1,8 +1,8 @@
 // Truncation of a number under an image (document 01: Images, second paragraph).
-ghost use Rattle.std.specs.Prelude.{◌≡◌, ◌+◌, ◌-◌, ◌*◌, ◌/◌, ◌^◌, ◌<◌, ◌≤◌, true, not, ◌&&◌, ◌==◌};
-ghost use Rattle.decimal.specs.Answer.{Answer, check_meaning, checked_only};
+ghost use Rattle.std.specs.Prelude.{◌≡◌, ◌+◌, ◌-◌, ◌*◌, ◌/◌, ◌^◌, ◌<◌, ◌≤◌, true, not, ◌&&◌, ◌==◌, OnOk};
+ghost use Rattle.decimal.specs.Answer.{meaning, mapped, checked_only};
 ghost use Rattle.decimal.specs.Digits.{precision, digits_of, packed_of};
-ghost use Rattle.decimal.specs.Number.{exponent_limit, normal, number_meaning};
+ghost use Rattle.decimal.specs.Number.{exponent_limit, normal};
 ghost use Rattle.decimal.specs.Truncation.{
   is_signed,
   exceeds as exceedsImage,
@@ -18,25 +18,27 @@ ghost use Rattle.decimal.specs.Truncation.{
 };
 
 use crate::digits::{PRECISION, packed_digits};
-use crate::image::{Image, ImageAnswer, Sign};
-use crate::number::{
-    EXPONENT_LIMIT, EXPONENT_OUTSIDE, EXPONENT_TOP, NOT_NORMAL, Number, NumberAnswer,
-};
+use crate::image::{Image, Sign};
+use crate::number::{EXPONENT_LIMIT, EXPONENT_TOP, Number};
 use crate::powers::power_of_ten;
-use crate::refusal::{CheckAnswer, Refusal};
-
-// Refusal 4: the number exceeds the image.
-pub const EXCEEDS: u8 = 4;
+use crate::refusal::{Reason, Refusal};
 
 // A number truncated under an image. The field x holds x + EXPONENT_LIMIT, where x is document 01's stored exponent; in fixed point x is 0.
-// The image's n digits are the last n half bytes of halves, the first digit highest. Where the answer is a refusal the truncation is that
-// of zero.
-#[derive(Clone, Copy)]
+// The image's n digits are the last n half bytes of halves, the first digit highest.
+#[derive(Clone, Copy, Debug, PartialEq, Eq, Hash)]
 pub struct Truncation {
-    pub answer: CheckAnswer,
     pub negative: bool,
     pub halves: u64,
     pub x: usize,
+}
+
+impl Truncation {
+    // The truncation of zero.
+    pub const ZERO: Truncation = Truncation {
+        negative: false,
+        halves: 0,
+        x: EXPONENT_LIMIT,
+    };
 }
 
 // A number below 1 has no digit before the point.
@@ -80,70 +82,60 @@ fn exponent_outside(image: Image, number: Number) -> bool
     EXPONENT_TOP < high - integer
 }
 
-// The answer of a refused call.
-fn refused(number: u8, place: usize) -> CheckAnswer
-    ensures { check_meaning result ≡ Answer.refused number place }
-{
-    CheckAnswer::Refused(Refusal { number, place })
-}
-
 // Whether a number in normal form is within an image's limits: refused with 5 by an exponential image, with 4 by another.
-fn limits(image: Image, number: Number, place: usize) -> CheckAnswer
+fn limits(image: Image, number: Number, place: usize) -> Result<(), Refusal>
     requires { normal number ≡ true }
-    ensures { check_meaning result ≡ checked_only (limited place image number) }
+    ensures { meaning result ≡ checked_only (limited place image number) }
 {
     if image.exponential {
         if exponent_outside(image, number) {
-            return refused(EXPONENT_OUTSIDE, place);
+            return Err(Refusal {
+                reason: Reason::ExponentOutside,
+                place,
+            });
         }
-        return CheckAnswer::Fine;
+        return Ok(());
     }
     if exceeds(image, number) {
-        return refused(EXCEEDS, place);
+        return Err(Refusal {
+            reason: Reason::Exceeds,
+            place,
+        });
     }
-    CheckAnswer::Fine
+    Ok(())
 }
 
 // Whether a number can be truncated under an image; refused with 1 or 2 for the image, 3 for the number, 4 or 5 for the two.
-pub fn fit(image: Image, number: Number, place: usize) -> CheckAnswer
-    ensures { check_meaning result ≡ checked_only (truncation place image number) }
+pub fn fit(image: Image, number: Number, place: usize) -> Result<(), Refusal>
+    ensures fits { OnOk result (Fit image number) }
+    ensures answer { meaning result ≡ checked_only (truncation place image number) }
 {
-    if let ImageAnswer::Refused(refusal) = image.checked(place) {
-        return CheckAnswer::Refused(refusal);
-    }
-    if number.is_normal() {
-        return limits(image, number, place);
-    }
-    refused(NOT_NORMAL, place)
+    image.checked(place)?;
+    number.checked(place)?;
+    limits(image, number, place)
 }
 
 // Whether a number can be packed under an image: as fit, and an unsigned exponential image refuses a negative x with 5.
-pub fn fit_packed(image: Image, number: Number, place: usize) -> CheckAnswer
-    ensures { check_meaning result ≡ checked_only (packed_truncation place image number) }
+pub fn fit_packed(image: Image, number: Number, place: usize) -> Result<(), Refusal>
+    ensures fits { OnOk result (Fit image number) }
+    ensures answer { meaning result ≡ checked_only (packed_truncation place image number) }
 {
-    if let CheckAnswer::Refused(refusal) = fit(image, number, place) {
-        return CheckAnswer::Refused(refusal);
-    }
-    let sign = image.sign;
-    if is_signed(sign) {
-        return CheckAnswer::Fine;
-    }
+    fit(image, number, place)?;
     let below = stored_exponent(image, number) < EXPONENT_LIMIT;
-    if below {
-        return refused(EXPONENT_OUTSIDE, place);
+    if below && !is_signed(image.sign) {
+        return Err(Refusal {
+            reason: Reason::ExponentOutside,
+            place,
+        });
     }
-    CheckAnswer::Fine
+    Ok(())
 }
 
 // Whether an image has a sign.
 fn is_signed(sign: Sign) -> bool
     ensures { result ≡ is_signed sign }
 {
-    match sign {
-        Sign::Unsigned => false,
-        Sign::Plus => true,
-        Sign::Minus => true,
-    }
+    matches!(sign, Sign::Plus | Sign::Minus)
 }
 
 // The stored exponent x of a number that fits an image, plus EXPONENT_LIMIT; x is 0 in fixed point and for zero.
@@ -182,13 +174,8 @@ pub(crate) fn kept_count(image: Image, number: Number) -> usize
 fn keeps_minus(image: Image, number: Number, count: usize) -> bool
     ensures { result ≡ (is_signed image.sign && (number.negative && not (count == 0))) }
 {
-    let sign = image.sign;
-    if is_signed(sign) {
-        if 0 < count {
-            return number.negative;
-        }
-    }
-    false
+    let keeps_digit = 0 < count;
+    is_signed(image.sign) && keeps_digit && number.negative
 }
 
 // The first count digits of a mantissa as the last half bytes of a number; zeros before them.
@@ -200,24 +187,16 @@ fn kept_halves(mantissa: u64, count: usize) -> u64
 }
 
 // A number truncated under an image: the sign and the digits kept and the stored exponent; refused as fit is.
-pub fn truncate(image: Image, number: Number, place: usize) -> Truncation
-    ensures { result ≡ truncation_of (truncation place image number) }
+pub fn truncate(image: Image, number: Number, place: usize) -> Result<Truncation, Refusal>
+    ensures { meaning result ≡ mapped truncation_of (truncation place image number) }
 {
-    if let CheckAnswer::Refused(refusal) = fit(image, number, place) {
-        return Truncation {
-            answer: CheckAnswer::Refused(refusal),
-            negative: false,
-            halves: 0,
-            x: EXPONENT_LIMIT,
-        };
-    }
+    fit(image, number, place)?;
     let count = kept_count(image, number);
-    Truncation {
-        answer: CheckAnswer::Fine,
+    Ok(Truncation {
         negative: keeps_minus(image, number, count),
         halves: kept_halves(number.mantissa, count),
         x: stored_exponent(image, number),
-    }
+    })
 }
 
 // The whole part of a mantissa in units of a power of ten: the digits before the unit's, the rest cut off and not rounded.
@@ -238,17 +217,15 @@ fn cut_mantissa(mantissa: u64, count: usize) -> u64
 }
 
 // A number's truncation under an image as a number; refused as fit is.
-pub fn truncated(image: Image, number: Number, place: usize) -> NumberAnswer
-    ensures { number_meaning result ≡ truncated_number place image number }
+pub fn truncated(image: Image, number: Number, place: usize) -> Result<Number, Refusal>
+    ensures { meaning result ≡ truncated_number place image number }
 {
-    if let CheckAnswer::Refused(refusal) = fit(image, number, place) {
-        return NumberAnswer::Refused(refusal);
-    }
+    fit(image, number, place)?;
     let count = kept_count(image, number);
     if count == 0 {
-        return NumberAnswer::Number(Number::ZERO);
+        return Ok(Number::ZERO);
     }
-    NumberAnswer::Number(Number {
+    Ok(Number {
         negative: keeps_minus(image, number, count),
         mantissa: cut_mantissa(number.mantissa, count),
         exponent: number.exponent,

@@ -2,18 +2,15 @@
 // listing is printed, and standard error tells it; a failed write is told there too.
 #![tactic(auto)]
 
-use console::Input;
-
 // One byte more than a file may have, so that a longer one is seen.
 const INPUT_LENGTH: usize = records::FILE_LENGTH + 1;
 
 // Reads the input, and writes its report.
 fn main(rt: HostRuntime) {
     let mut input = [0u8; INPUT_LENGTH];
-    let Input::Bytes(size) = console::read_input(&rt, &mut input) else {
-        return;
-    };
-    let mut output = [0u8; records::REPORT_LENGTH];
-    let answer = records::report(&input[..size], &mut output);
-    console::write_output(&rt, codec::written_part(answer, &output));
+    if let Ok(size) = console::read_input(&rt, &mut input) {
+        let mut output = [0u8; records::REPORT_LENGTH];
+        let answer = records::report(&input[..size], &mut output);
+        console::write_output(&rt, codec::written_part(answer, &output));
+    }
 }

@@ -5,29 +5,29 @@ use native.Mathlib.Omega.{arith}
 use native.Mathlib.Numerals.{add-one}
 use native.Mathlib.Nat.{mul-le-mul}
 use mathlib.Core.Path.{◌≡◌, refl, ap, sym, ◌∙◌}
-use mathlib.Core.Logic.{⊎_elim}
+use mathlib.Core.Logic.{◌⊎◌, ⊎_elim}
 use mathlib.Core.List.{List, [], ◌∷◌}
-use mathlib.Core.Bool.{Bool, true, false}
+use mathlib.Core.Bool.{Bool, true, false, ◌&&◌}
 use lib.Dec.{eqb, leb}
 use lib.ListN.{length, take, drop, get_or, drop_of_length-le, length-drop}
 use lib.Seq.{drop-cons, drop-drop}
+use Rattle.std.proofs.lemmas.Bool.{leb-true}
 use borrow.Author.Tests.{eq-eqb, ne_eqb, lt-ltb, le-ltb, le-leb, lt-leb}
 use Rattle.decimal.specs.Image.{State, Start}
 use Rattle.decimal.specs.declared.number.Number.{Number}
 use Rattle.decimal.specs.Answer.{Answer, done, refused, ◌then◌, pick, checked_only}
 use Rattle.decimal.specs.Digits.{precision}
-use Rattle.decimal.specs.Number.{normal, zero_number}
+use Rattle.decimal.specs.Number.{normal, check_number}
 use Rattle.decimal.specs.Image.{hashes, scanned_image, next_state, integer_hash, fraction_hash, counted, integers_from, fractions_from}
 use Rattle.decimal.proofs.DigitLaws.{le_or_lt}
 use Rattle.decimal.proofs.BoolLaws.{zero_or_not}
 use Rattle.decimal.proofs.ImageLaws.{hash_once}
 use Rattle.decimal.proofs.AnswerLaws.{then_last, then_next, then_refused}
-use Rattle.codec.proofs.ListLaws.{filled_length, filled_at}
 use Rattle.records.specs.declared.fields.Element.{Element}
 use Rattle.records.specs.declared.fields.Element.TheVariants as element
 use Rattle.records.specs.Scanning.{field_length, longest_from}
 use Rattle.records.specs.Fields.{FieldReady}
-use Rattle.records.specs.Printing.{max_elements, max_line, literals, has_field, check_fields, check_element, check_elements, check_some, check_counts, line_checks, element_list, forecasting, text_outside, Reached, at_start, after_literal, after_field, Print, print_from, printed}
+use Rattle.records.specs.Printing.{max_elements, max_line, literals, has_field, check_fields, check_element, check_elements, check_some, check_counts, line_checks, forecasting, text_outside, LineReady, Reached, at_start, after_literal, after_field, Print, print_from, printed}
 use Rattle.records.proofs.FieldTheorem.{longest_field}
 
 -- Literal bytes.
@@ -238,24 +238,6 @@ reached_next {line} {k} r = reached_over (length (literals (drop k line))) r ref
 
 -- Elements.
 
--- the list of an array has as many elements as are counted
-pub element_count : (elements : List Element) (count : ℕ) → length (element_list elements count) ≡ count
-unfolding element_list
-element_count elements count = filled_length (element.Number zero_number) count elements
-
--- elements do not depend on what stands for those behind the end
-get_d_any : (es : List Element) (i : ℕ) (d e : Element) → i < length es → get_or es i d ≡ get_or es i e
-get_d_any [] i d e h = absurd (omega arith)
-get_d_any (x ∷ es) zero d e h = refl
-get_d_any (x ∷ es) (suc i) d e h = get_d_any es i d e (omega arith)
-
--- an element of the list is the array's
-pub element_same : (elements : List Element) (count i : ℕ) (d e : Element) → count ≤ length elements → i < count
-    → get_or (element_list elements count) i d ≡ get_or elements i e
-unfolding element_list
-element_same elements count i d e h l =
-    filled_at (element.Number zero_number) count elements i d l ∙ get_d_any elements i (element.Number zero_number) e (omega arith)
-
 -- the place of a refusal does not decide a test
 same_test : (t : Bool) (number i j : ℕ) → ◌≡◌ {A = Answer (Unit {0})} (pick t (done tt) (refused number i)) (done tt)
     → ◌≡◌ {A = Answer (Unit {0})} (pick t (done tt) (refused number j)) (done tt)
@@ -268,20 +250,17 @@ unfolding check_element
 checked_anywhere room i j (element.Number n) h = same_test (normal n) 3 i j h
 checked_anywhere room i j (element.Text from size) h = same_test (leb (from + size) room) text_outside i j h
 
--- elements that are not refused, from any place on
-element_from : (room index : ℕ) (es : List Element) → check_elements room index es ≡ done tt → (i : ℕ) (d : Element) → i < length es
-    → check_element room 0 (get_or es i d) ≡ done tt
-unfolding check_elements
-element_from room index [] h i d l = absurd (omega arith)
-element_from room index (e ∷ es) h zero d l =
-    checked_anywhere room index 0 e (then_last (check_element room index e) (check_elements room (suc index) es) h).0
-element_from room index (e ∷ es) h (suc i) d l =
-    element_from room (suc index) es (then_last (check_element room index e) (check_elements room (suc index) es) h).1 i d (omega arith)
+-- elements are not refused, whatever number the first of them has
+pub record Checked (room : ℕ) (es : List Element) : Type 0 where
+  pub index : ℕ
+  pub fine : check_elements room index es ≡ done tt
 
--- each element of a line not refused can be printed
-pub element_at : (room : ℕ) (es : List Element) → check_elements room 0 es ≡ done tt → (i : ℕ) (d : Element) → i < length es
-    → check_element room 0 (get_or es i d) ≡ done tt
-element_at room es h i d l = element_from room 0 es h i d l
+-- the first of them can be printed, and the others are not refused
+pub checked_cons : {room : ℕ} {e : Element} {es : List Element} → Checked room (e ∷ es) → (check_element room 0 e ≡ done tt) × Checked room es
+unfolding check_elements
+checked_cons {room} {e} {es} c =
+    let both = then_last (check_element room c.index e) (check_elements room (suc c.index) es) c.fine in
+    (checked_anywhere room c.index 0 e both.0, record { index = suc c.index; fine = both.1 })
 
 -- the elements from a place on: the first one, then the others
 elements_cons : (room index : ℕ) (es : List Element) (d : Element) → index < length es
@@ -304,16 +283,14 @@ pub elements_end : (room index : ℕ) (es : List Element) → length es ≤ inde
 unfolding check_elements
 elements_end room index es h = ap (check_elements room index) (drop_of_length-le es h)
 
--- a number in normal form
-pub number_checked : (room index : ℕ) {e : Element} {n : Number} → e ≡ element.Number n → normal n ≡ true → check_element room index e ≡ done tt
-unfolding check_element
-number_checked room index {e} {n} h k = ap (check_element room index) h ∙ ap (λ (t : Bool). pick t (done tt) (refused 3 index)) k
-
--- one in another form
-pub number_refused : (room index : ℕ) {e : Element} {n : Number} → e ≡ element.Number n → normal n ≡ false
-    → check_element room index e ≡ refused 3 index
-unfolding check_element
-number_refused room index {e} {n} h k = ap (check_element room index) h ∙ ap (λ (t : Bool). pick t (done tt) (refused 3 index)) k
+-- a number by its form
+pub number_element : (room index : ℕ) {e : Element} {n : Number} → e ≡ element.Number n → check_element room index e ≡ checked_only (check_number index n)
+unfolding check_element check_number checked_only
+number_element room index {e} {n} h = ap (check_element room index) h ∙ go (normal n)
+  where
+    go : (b : Bool) → pick b (done tt) (refused 3 index) ≡ checked_only (pick b (done n) (refused 3 index))
+    go true = refl
+    go false = refl
 
 -- a text inside its lent bytes
 pub text_checked : (room index : ℕ) {e : Element} {from size : ℕ} → e ≡ element.Text from size → from + size ≤ room
@@ -338,13 +315,13 @@ checked_same (done tt) = refl
 checked_same (refused number place) = refl
 
 -- no elements need no field
-pub some_none : (line : List ℕ) (es : List Element) → length es ≡ 0 → check_some line es ≡ done tt
+some_none : (line : List ℕ) (es : List Element) → length es ≡ 0 → check_some line es ≡ done tt
 unfolding check_some
 some_none line [] h = refl
 some_none line (e ∷ es) h = absurd (omega arith)
 
 -- a line with a field takes elements
-pub some_field : (line : List ℕ) (es : List Element) → length (literals line) < length line → check_some line es ≡ done tt
+some_field : (line : List ℕ) (es : List Element) → length (literals line) < length line → check_some line es ≡ done tt
 unfolding check_some has_field
 some_field line [] h = refl
 some_field line (e ∷ es) h = rw (lt-ltb (length (literals line)) (length line) h)
@@ -355,20 +332,40 @@ unfolding check_some has_field
 some_refused line [] h l = absurd (omega arith)
 some_refused line (e ∷ es) h l = rw (le-ltb (length (literals line)) (length line) l)
 
+-- where it has a field, or there are none, nothing is refused
+pub some_done : (line : List ℕ) (es : List Element) → (length (literals line) < length line) ⊎ (length es ≡ 0) → check_some line es ≡ done tt
+some_done line es w = ⊎_elim (some_field line es) (some_none line es) w
+
 -- counts within their limits
 pub counts_done : (count size : ℕ) → count ≤ max_elements → size ≤ max_line → check_counts count size ≡ done tt
 unfolding check_counts
 counts_done count size h l = rw (le-leb count max_elements h, le-leb size max_line l)
 
+-- and only they are
+counts_within : (count size : ℕ) → check_counts count size ≡ done tt → (count ≤ max_elements) × (size ≤ max_line)
+unfolding check_counts
+counts_within count size h = go (leb count max_elements) (leb size max_line) refl refl h
+  where
+    go : (s t : Bool) → leb count max_elements ≡ s → leb size max_line ≡ t
+        → ◌≡◌ {A = Answer (Unit {0})} (pick (s && t) (done tt) (refused 10 0)) (done tt)
+        → (count ≤ max_elements) × (size ≤ max_line)
+    go true true p q h = (leb-true count max_elements p, leb-true size max_line q)
+    go true false p q h = let z : ◌≡◌ {A = ℕ} 0 1 = cc in absurd (omega arith)
+    go false t p q h = let z : ◌≡◌ {A = ℕ} 0 1 = cc in absurd (omega arith)
+
 -- too many elements
-pub counts_many : (count size : ℕ) → max_elements < count → check_counts count size ≡ refused 10 0
+counts_many : (count size : ℕ) → max_elements < count → check_counts count size ≡ refused 10 0
 unfolding check_counts
 counts_many count size h = rw (lt-leb count max_elements h)
 
 -- too long a line
-pub counts_long : (count size : ℕ) → count ≤ max_elements → max_line < size → check_counts count size ≡ refused 10 0
+counts_long : (count size : ℕ) → count ≤ max_elements → max_line < size → check_counts count size ≡ refused 10 0
 unfolding check_counts
 counts_long count size h l = rw (le-leb count max_elements h, lt-leb size max_line l)
+
+-- one or the other
+pub counts_refused : (count size : ℕ) → (max_elements < count) ⊎ ((count ≤ max_elements) × (max_line < size)) → check_counts count size ≡ refused 10 0
+counts_refused count size w = ⊎_elim (counts_many count size) (λ p. counts_long count size p.0 p.1) w
 
 module _ (line : List ℕ) (es : List Element) (room : ℕ) where
   -- refused for its counts
@@ -394,21 +391,22 @@ module _ (line : List ℕ) (es : List Element) (room : ℕ) where
   unfolding line_checks
   line_elements h f g = then_next _ h ∙ then_next _ f ∙ then_next _ g
 
--- checks one after the other
-then_again : {A : Type 0} (r s : Answer (Unit {0})) (f : Answer A) → (r then λ _. (s then λ _. f)) ≡ ((r then λ _. s) then λ _. f)
-unfolding ◌then◌
-then_again (done tt) s f = refl
-then_again (refused number place) s f = refl
-
 -- what a line that is not refused has passed
 pub line_passed : (line : List ℕ) (es : List Element) (room : ℕ) → line_checks line es room ≡ done tt
-    → (check_counts (length es) (length line) ≡ done tt) × (check_fields 0 0 line ≡ done tt) × (check_some line es ≡ done tt) × (check_elements room 0 es ≡ done tt)
+    → LineReady line es × (check_fields 0 0 line ≡ done tt) × (check_elements room 0 es ≡ done tt)
 unfolding line_checks
 line_passed line es room h =
     let a = then_last (check_counts (length es) (length line)) _ h in
     let b = then_last (check_fields 0 0 line) _ a.1 in
     let d = then_last (check_some line es) _ b.1 in
-    (a.0, b.0, d.0, d.1)
+    let n = counts_within (length es) (length line) a.0 in
+    (record { few = n.0; short = n.1; some = d.0 }, b.0, d.1)
+
+-- checks one after the other
+then_again : {A : Type 0} (r s : Answer (Unit {0})) (f : Answer A) → (r then λ _. (s then λ _. f)) ≡ ((r then λ _. s) then λ _. f)
+unfolding ◌then◌
+then_again (done tt) s f = refl
+then_again (refused number place) s f = refl
 
 -- a line is checked, then printed
 pub printed_checks : (line : List ℕ) (es : List Element) (texts : List ℕ)

@@ -1,16 +1,17 @@
 -- Laws of fields that are filled: the bytes written one by one, the # signs of a field, and the length of what an element prints.
 -- Assumes nothing.
-use Prim.Native.Nat.{ℕ, zero, suc, ◌+◌, ◌-◌, ◌<◌, ◌≤◌}
+use Prim.Native.Nat.{ℕ, zero, suc, ◌+◌, ◌<◌, ◌≤◌}
 use native.Mathlib.Omega.{arith}
 use native.Mathlib.Numerals.{add-one}
-use mathlib.Core.Path.{◌≡◌, refl, ap, sym, ◌∙◌}
-use mathlib.Core.List.{List, [], ◌∷◌, ◌++◌, append_assoc, append-nil}
+use mathlib.Core.Path.{◌≡◌, refl, ap, ap₂, sym, ◌∙◌}
+use mathlib.Core.List.{List, [], ◌∷◌, ◌++◌, append-nil}
 use mathlib.Core.Logic.{⊎_elim}
-use mathlib.Core.Bool.{Bool, true, false, not, ◌&&◌}
-use lib.Dec.{ltb, eqb}
-use lib.ListN.{length, take, drop, get_or, length-drop, drop_of_length-le, take-append-drop}
-use lib.Seq.{drop-cons, drop-drop, take-length}
-use borrow.Author.Tests.{eq-eqb, ne_eqb, lt-leb}
+use mathlib.Core.Bool.{Bool, true, false}
+use lib.Dec.{eqb}
+use lib.ListN.{length, take, drop, get_or, set, drop_of_length-le}
+use lib.Seq.{drop-cons, take_all}
+use Rattle.std.proofs.lemmas.List.{drop-set-lt}
+use borrow.Author.Tests.{eq-eqb, lt-leb}
 use Rattle.decimal.specs.declared.image.Sign.{Sign}
 use Rattle.decimal.specs.declared.image.Sign.TheVariants.{Unsigned, Plus, Minus}
 use Rattle.decimal.specs.declared.image.Image.{Image}
@@ -18,12 +19,14 @@ use Rattle.decimal.specs.declared.number.Number.{Number}
 use Rattle.decimal.specs.Answer.{Answer, done, refused, ◌then◌, pick, checked_only}
 use Rattle.decimal.specs.Digits.{digits_of}
 use Rattle.decimal.specs.Number.{normal}
-use Rattle.decimal.specs.Image.{hash_byte, point_byte, comma_byte, hashes, times, sign_bytes, fraction_bytes, up_bytes, image_bytes, scanned_image, IsImage}
+use Rattle.decimal.specs.Image.{hash_byte, comma_byte, hashes, times, sign_bytes, fraction_bytes, up_bytes, image_bytes, scanned_image, IsImage}
 use Rattle.decimal.specs.Truncation.{Truncated, truncation}
 use Rattle.decimal.proofs.DigitLaws.{digit_below, digits_are_digits, le_or_lt}
-use Rattle.codec.specs.Answers.{stored_in, written, sized}
-use Rattle.codec.specs.Alpha.{alpha_text, text_length, writing_alpha_under, blank_byte, zero_byte}
+use Rattle.codec.specs.Answers.{stored_in, sized}
+use Rattle.codec.specs.Alpha.{alpha_text, text_length, writing_alpha_under, blank_byte}
+use Rattle.codec.specs.Lists.{filled}
 use Rattle.codec.proofs.ListLaws.{filled_length}
+use lib.ListN.{replicate}
 use Rattle.decimal.proofs.AnswerLaws.{never_done}
 use Rattle.codec.proofs.AlphaLaws.{text_length_lem, image_length, under_refused, under_done, writing_under_refused, writing_under_done}
 use Rattle.records.specs.declared.fields.Fill.{Fill}
@@ -32,111 +35,38 @@ use Rattle.records.specs.declared.fields.Element.TheVariants as element
 use Rattle.records.specs.Scanning.{Field, run_bytes, field_bytes, total, IsField}
 use Rattle.records.specs.declared.marks.Marks.{Marks}
 use Rattle.records.specs.Marks.{document_marks, with_decimal}
-use Rattle.records.specs.Fields.{next_digit, suppressed, sign_byte_of, fill_byte, fill_next, fill_bytes, nothing_filled, shown_marked, number_marked, or_field, spilled_by}
-use Rattle.records.specs.Fields.{text_in, element_bytes, FieldReady, hash_count}
+use Rattle.records.specs.Fields.{next_digit, fill_byte, fill_next, fill_bytes, nothing_filled, shown_marked, number_marked, number_in, or_field, spilled_by}
+use Rattle.records.specs.Fields.{text_in, element_bytes, FieldImage, hash_count, point_marked}
 use Rattle.records.specs.Printing.{check_element}
 use Rattle.records.proofs.FieldTheorem.{field_image_lem}
-use Rattle.records.proofs.MarkLaws.{decimal_length}
+use Rattle.records.proofs.WritingLaws.{stored_behind, stored_all}
+use Rattle.records.proofs.MarkLaws.{decimal_length, point_marked_lem}
 
--- a byte behind a list's end is the default
-pub get_d_behind : (l : List ℕ) (j d : ℕ) → length l ≤ j → d ≡ get_or l j d
-get_d_behind [] j d h = refl
-get_d_behind (x ∷ l) zero d h = absurd (omega arith)
-get_d_behind (x ∷ l) (suc j) d h = get_d_behind l j d (omega arith)
+-- A text cut or filled with blanks.
 
--- bytes stored in the part of a buffer from a place on, which is put back
-pub stored_part :
-    (b : List ℕ) (start k : ℕ) (s part : List ℕ)
-    → start ≤ length b
-    → k ≡ length b - start
-    → part ≡ stored_in (done s) (take k (drop start b))
-    → take start b ++ (part ++ drop k (drop start b)) ≡ written b start s
-unfolding stored_in written
-stored_part b start k s part h e stored =
-    let size : length (drop start b) ≡ k = length-drop start b ∙ sym e in
-    let none : drop k (drop start b) ≡ [] = drop_of_length-le (drop start b) {i = k} (omega arith) in
-    let all : take k (drop start b) ≡ drop start b = ap (λ (n : ℕ). take n (drop start b)) (sym size) ∙ take-length (drop start b) in
-    let tail : drop (length s) (take k (drop start b)) ≡ drop (start + length s) b =
-    ap (drop (length s)) all ∙ drop-drop (length s) start b in
-    ap (λ (l : List ℕ). take start b ++ (part ++ l)) none
-    ∙ ap (λ (l : List ℕ). take start b ++ l) (append-nil part ∙ stored ∙ ap (λ (l : List ℕ). s ++ l) tail)
-    ∙ sym (append_assoc (take start b) s (drop (start + length s) b))
+-- behind no element every place has the default
+filled_none : (d n : ℕ) → replicate n d ≡ filled n d []
+unfolding filled
+filled_none d zero = refl
+filled_none d (suc n) = ap (λ (l : List ℕ). d ∷ l) (filled_none d n)
 
--- the part as it was, put back
-pub part_back : (b : List ℕ) (start k : ℕ) (part : List ℕ) → start ≤ length b → k ≡ length b - start → part ≡ take k (drop start b)
-    → take start b ++ (part ++ drop k (drop start b)) ≡ b
-part_back b start k part h e same =
-    ap (λ (l : List ℕ). take start b ++ (l ++ drop k (drop start b))) same
-    ∙ ap (λ (l : List ℕ). take start b ++ l) (take-append-drop k (drop start b))
-    ∙ take-append-drop start b
+-- the first elements, and the default in every place behind them if there are no others
+pub filled_parts : (d n : ℕ) (xs : List ℕ) (k m : ℕ) → k + m ≡ n → k ≤ length xs → (0 < m → length xs ≤ k) → take k xs ++ replicate m d ≡ filled n d xs
+unfolding filled
+filled_parts d n [] zero m e h o = let same : m ≡ n = omega arith in ap (λ (i : ℕ). replicate i d) same ∙ filled_none d n
+filled_parts d zero (x ∷ xs) zero zero e h o = refl
+filled_parts d (suc n) (x ∷ xs) zero zero e h o = absurd (omega arith)
+filled_parts d n (x ∷ xs) zero (suc m) e h o = absurd (omega (arith, o (omega arith)))
+filled_parts d n [] (suc k) m e h o = absurd (omega arith)
+filled_parts d zero (x ∷ xs) (suc k) m e h o = absurd (omega arith)
+filled_parts d (suc n) (x ∷ xs) (suc k) m e h o =
+    ap (λ (l : List ℕ). x ∷ l) (filled_parts d n xs k m (omega arith) (omega arith) (λ some. omega (arith, o some)))
 
 -- Digits.
 
 -- a digit is below ten
 pub next_digit_below : (im : Image) (t : Truncated) (fill : Fill) → next_digit im t fill < 10
 next_digit_below im t fill = digit_below (digits_of (hashes im) t.whole) (digits_are_digits (hashes im) t.whole) fill.used
-
--- whether it is a leading zero that becomes the filling byte, as the code finds
-pub suppressed_by :
-    (im : Image) (t : Truncated) (fill : Fill) {digit : ℕ} {r : Bool}
-    → digit ≡ next_digit im t fill
-    → r ≡ (not fill.shown && (eqb digit 0 && ltb (fill.used + 1) im.integer))
-    → suppressed im t fill ≡ r
-suppressed_by im t fill e h = sym (h ∙ ap (λ (d : ℕ). not fill.shown && (eqb d 0 && ltb (fill.used + 1) im.integer)) e)
-
--- What stands for a byte, and what was filled then.
-
-module _ (m : Marks) (im : Image) (t : Truncated) (fill : Fill) {b : ℕ} where
-  -- a zero that is not shown
-  pub fill_blank : b ≡ hash_byte → suppressed im t fill ≡ true → m.filling ≡ fill_byte m im t fill b
-  unfolding fill_byte
-  fill_blank e h = sym (ap (fill_byte m im t fill) e ∙ ap (λ (c : Bool). pick c m.filling (zero_byte + next_digit im t fill)) h)
-
-  -- a digit
-  pub fill_digit : b ≡ hash_byte → suppressed im t fill ≡ false → zero_byte + next_digit im t fill ≡ fill_byte m im t fill b
-  unfolding fill_byte
-  fill_digit e h = sym (ap (fill_byte m im t fill) e ∙ ap (λ (c : Bool). pick c m.filling (zero_byte + next_digit im t fill)) h)
-
-  -- a comma
-  pub fill_comma : b ≡ comma_byte → pick fill.shown m.thousands m.filling ≡ fill_byte m im t fill b
-  unfolding fill_byte
-  fill_comma e = sym (ap (fill_byte m im t fill) e)
-
-  -- the point
-  pub fill_point : b ≡ point_byte → m.decimal ≡ fill_byte m im t fill b
-  unfolding fill_byte
-  fill_point e = sym (ap (fill_byte m im t fill) e)
-
-  -- the sign
-  pub fill_sign : (b ≡ hash_byte → ⊥) → (b ≡ comma_byte → ⊥) → (b ≡ point_byte → ⊥) → sign_byte_of b t.negative ≡ fill_byte m im t fill b
-  unfolding fill_byte
-  fill_sign h k p = rw (ne_eqb b hash_byte h, ne_eqb b comma_byte k, ne_eqb b point_byte p)
-
-module _ (im : Image) (t : Truncated) (fill : Fill) {b : ℕ} where
-  -- whether a digit was shown behind a #
-  pub shown_hash : b ≡ hash_byte → (fill_next im t fill b).shown ≡ not (suppressed im t fill)
-  unfolding fill_next
-  shown_hash e = ap (λ (c : ℕ). (fill_next im t fill c).shown) e
-
-  -- and behind a comma
-  pub shown_comma : b ≡ comma_byte → (fill_next im t fill b).shown ≡ fill.shown
-  unfolding fill_next
-  shown_comma e = ap (λ (c : ℕ). (fill_next im t fill c).shown) e
-
-  -- behind a #
-  pub next_hash : b ≡ hash_byte → {hidden : Bool} → suppressed im t fill ≡ hidden → record { shown = not hidden; used = fill.used + 1 } ≡ fill_next im t fill b
-  unfolding fill_next
-  next_hash e h = sym (ap (fill_next im t fill) e ∙ ap (λ (c : Bool). record { shown = not c; used = fill.used + 1 }) h)
-
-  -- behind the point
-  pub next_point : b ≡ point_byte → record { shown = true; used = fill.used } ≡ fill_next im t fill b
-  unfolding fill_next
-  next_point e = sym (ap (fill_next im t fill) e)
-
-  -- behind any other byte
-  pub next_other : (b ≡ hash_byte → ⊥) → (b ≡ point_byte → ⊥) → fill ≡ fill_next im t fill b
-  unfolding fill_next
-  next_other h p = rw (ne_eqb b hash_byte h, ne_eqb b point_byte p)
 
 -- Filling.
 
@@ -146,15 +76,15 @@ unfolding fill_bytes
 fill_length m im t fill [] = refl
 fill_length m im t fill (b ∷ bs) = ap suc (fill_length m im t (fill_next im t fill b) bs)
 
--- the field is filled up to a byte: what is still to come, and the digits that are left for it
-pub record Filling (m : Marks) (im : Image) (t : Truncated) (field : List ℕ) (fill : Fill) (j : ℕ) : Type 0 where
-  pub inside : j ≤ length field
-  pub rest : drop j (fill_bytes m im t nothing_filled field) ≡ fill_bytes m im t fill (drop j field)
-  pub left : fill.used + hash_count (drop j field) ≤ hashes im
+-- a field is filled up to a byte: the filled bytes, and those that are still to come, make the whole, and there are digits left for it
+pub record Filling (m : Marks) (im : Image) (t : Truncated) (whole now : List ℕ) (fill : Fill) (j : ℕ) : Type 0 where
+  pub made : take j now ++ fill_bytes m im t fill (drop j now) ≡ whole
+  pub left : fill.used + hash_count (drop j now) ≤ hashes im
 
 -- at the field's start
-pub filling_starts : (m : Marks) (im : Image) (t : Truncated) (field : List ℕ) → hash_count field ≤ hashes im → Filling m im t field nothing_filled 0
-filling_starts m im t field h = record { inside = omega arith; rest = refl; left = omega arith }
+pub filling_starts : (m : Marks) (im : Image) (t : Truncated) (field : List ℕ) → hash_count field ≤ hashes im
+    → Filling m im t (fill_bytes m im t nothing_filled field) field nothing_filled 0
+filling_starts m im t field h = record { made = refl; left = omega arith }
 
 -- the # signs from a byte on
 count_cons : (field : List ℕ) (j : ℕ) → j < length field
@@ -177,39 +107,37 @@ used_next : (im : Image) (t : Truncated) (fill : Fill) (b : ℕ) → (fill_next 
 unfolding fill_next
 used_next im t fill b = picked_used (eqb b hash_byte) _ _ ∙ picked_more (eqb b hash_byte) fill.used
 
-module _ {m : Marks} {im : Image} {t : Truncated} {field : List ℕ} {fill : Fill} {j : ℕ} (f : Filling m im t field fill j) (h : j < length field) where
-  -- what is still to come from a byte on
-  rest_cons :
-      drop j (fill_bytes m im t nothing_filled field)
-      ≡ fill_byte m im t fill (get_or field j 0) ∷ fill_bytes m im t (fill_next im t fill (get_or field j 0)) (drop (suc j) field)
-  unfolding fill_bytes
-  rest_cons = f.rest ∙ ap (fill_bytes m im t fill) (drop-cons field j 0 h)
-
-  -- and of what is filled
-  whole_cons :
-      drop j (fill_bytes m im t nothing_filled field)
-      ≡ get_or (fill_bytes m im t nothing_filled field) j 0 ∷ drop (suc j) (fill_bytes m im t nothing_filled field)
-  whole_cons = drop-cons (fill_bytes m im t nothing_filled field) j 0 (omega (arith, fill_length m im t nothing_filled field))
-
-  -- the next byte
-  pub filling_byte : fill_byte m im t fill (get_or field j 0) ≡ get_or (fill_bytes m im t nothing_filled field) j 0
-  filling_byte = ap (λ (l : List ℕ). get_or l 0 0) (sym rest_cons ∙ whole_cons)
-
+module _ {m : Marks} {im : Image} {t : Truncated} {whole now : List ℕ} {fill : Fill} {j : ℕ} (f : Filling m im t whole now fill j) where
   -- a digit is left for a #
-  pub filling_hash : get_or field j 0 ≡ hash_byte → fill.used < hashes im
-  filling_hash e =
-      let one : ◌≡◌ {A = ℕ} (pick (eqb (get_or field j 0) hash_byte) 1 0) 1 = rw (eq-eqb (get_or field j 0) hash_byte e) in
-      omega (arith, f.left, count_cons field j h)
+  pub filling_hash : j < length now → get_or now j 0 ≡ hash_byte → fill.used < hashes im
+  filling_hash h e =
+      let one : ◌≡◌ {A = ℕ} (pick (eqb (get_or now j 0) hash_byte) 1 0) 1 = rw (eq-eqb (get_or now j 0) hash_byte e) in
+      omega (arith, f.left, count_cons now j h)
 
   -- one byte more
-  pub filling_turns : Filling m im t field (fill_next im t fill (get_or field j 0)) (j + 1)
-  filling_turns =
-      rw (add-one j)
-      (record {
-        inside = omega arith;
-        rest = ap (λ (l : List ℕ). drop 1 l) (sym whole_cons ∙ rest_cons);
-        left = omega (arith, f.left, count_cons field j h, used_next im t fill (get_or field j 0));
-      })
+  pub filling_turns : j < length now → {next : Fill} {b : ℕ} → next ≡ fill_next im t fill (get_or now j 0) → b ≡ fill_byte m im t fill (get_or now j 0)
+      → Filling m im t whole (set now j b) next (j + 1)
+  unfolding fill_bytes
+  filling_turns h {next} {b} n e =
+      let byte = get_or now j 0 in
+      let rest : drop (j + 1) (set now j b) ≡ drop (suc j) now = drop-set-lt (j + 1) now j b (omega arith) ∙ ap (λ (k : ℕ). drop k now) (add-one j) in
+      record {
+        made =
+            ap₂ (λ (f : Fill) (l : List ℕ). take (j + 1) (set now j b) ++ fill_bytes m im t f l) n rest
+            ∙ sym (stored_behind now j b (fill_bytes m im t (fill_next im t fill byte) (drop (suc j) now)) h)
+            ∙ ap (λ (x : ℕ). take j now ++ x ∷ fill_bytes m im t (fill_next im t fill byte) (drop (suc j) now)) e
+            ∙ ap (λ (l : List ℕ). take j now ++ fill_bytes m im t fill l) (sym (drop-cons now j 0 h))
+            ∙ f.made;
+        left = omega (arith, f.left, count_cons now j h, ap (λ (x : Fill). x.used) n, used_next im t fill byte, ap hash_count rest);
+      }
+
+  -- all bytes
+  pub filling_ends : length now ≤ j → now ≡ whole
+  unfolding fill_bytes
+  filling_ends h =
+      sym (append-nil now)
+      ∙ ap₂ (λ (l r : List ℕ). l ++ fill_bytes m im t fill r) (sym (take_all j now h)) (sym (drop_of_length-le now {i = j} h))
+      ∙ f.made
 
 -- The # signs of a field.
 
@@ -298,49 +226,106 @@ exponential_image {field} {f} is e =
       nonempty = omega (arith, is.nonempty, ap hashes same);
     }
 
--- A number under the image of an exponential field, into a buffer with room for the field.
+-- What a number prints, by its truncation.
 
--- it is refused, and nothing is written
-pub record AlphaRefused (im : Image) (n : Number) (room : ℕ) : Type 0 where
-  pub number : ℕ
-  pub place : ℕ
-  pub truncated : truncation 0 im n ≡ refused number place
-  pub answer : writing_alpha_under im n room ≡ refused number place
+module _ (m : Marks) (field : List ℕ) (n : Number) where
+  -- a number that is refused prints the field
+  pub number_refused : {number place : ℕ} → truncation 0 (scanned_image field) n ≡ refused number place → or_field field (number_marked m field n) ≡ field
+  unfolding number_marked ◌then◌ or_field
+  number_refused h =
+      ap (λ (a : Answer Truncated). or_field field (a then λ t. done (shown_marked m field (scanned_image field) t))) h
 
--- or its alpha text is
-pub record AlphaWritten (im : Image) (n : Number) (room : ℕ) : Type 0 where
-  pub to : Truncated
-  pub truncated : truncation 0 im n ≡ done to
-  pub answer : writing_alpha_under im n room ≡ done (alpha_text im to)
+  -- any other is shown
+  pub number_shown : {t : Truncated} → truncation 0 (scanned_image field) n ≡ done t → or_field field (number_marked m field n) ≡ shown_marked m field (scanned_image field) t
+  unfolding number_marked ◌then◌ or_field
+  number_shown h =
+      ap (λ (a : Answer Truncated). or_field field (a then λ t. done (shown_marked m field (scanned_image field) t))) h
 
-module _ {field : List ℕ} (ready : FieldReady field) {im : Image} (same : im ≡ scanned_image field) (e : im.exponential ≡ true) (n : Number) {room : ℕ} (fits : length field ≤ room) where
+  -- in fixed point it fills the field
+  pub number_fixed :
+      {t : Truncated}
+      → truncation 0 (scanned_image field) n ≡ done t
+      → (scanned_image field).exponential ≡ false
+      → or_field field (number_marked m field n) ≡ fill_bytes m (scanned_image field) t nothing_filled field
+  unfolding shown_marked
+  number_fixed h e = number_shown h ∙ rw e
+
+  -- in exponential form it prints as alpha text, with the decimal mark
+  pub number_alpha :
+      {t : Truncated}
+      → truncation 0 (scanned_image field) n ≡ done t
+      → (scanned_image field).exponential ≡ true
+      → or_field field (number_marked m field n) ≡ with_decimal m (alpha_text (scanned_image field) t)
+  unfolding shown_marked
+  number_alpha h e = number_shown h ∙ rw e
+
+-- A number under the image of an exponential field, into the field's own bytes.
+
+module _ {field : List ℕ} {im : Image} (f : FieldImage field im) (e : im.exponential ≡ true) where
   -- a text has the field's length
   pub exponential_length : text_length im ≡ length field
   exponential_length =
-      let image = exponential_image ready.is_field (sym (ap (λ (i : Image). i.exponential) same) ∙ e) in
-      ap text_length same ∙ sym (ap length image.rendered ∙ image_length (scanned_image field))
+      let image = exponential_image f.ready.is_field (sym (ap (λ (i : Image). i.exponential) f.read) ∙ e) in
+      ap text_length f.read ∙ sym (ap length image.rendered ∙ image_length (scanned_image field))
 
-  -- so that there is room for it
-  alpha_given : {t : Truncated} → truncation 0 im n ≡ done t → writing_alpha_under im n room ≡ done (alpha_text im t)
-  alpha_given {t} h = writing_under_done im n room (under_done im n h) (omega (arith, text_length_lem im t, exponential_length))
+  module _ (n : Number) where
+    -- so that there is room for it
+    alpha_given : {t : Truncated} → truncation 0 im n ≡ done t → writing_alpha_under im n (length field) ≡ done (alpha_text im t)
+    alpha_given {t} h = writing_under_done im n (length field) (under_done im n h) (omega (arith, text_length_lem im t, exponential_length))
 
-  -- a number is refused where it is not truncated
-  pub alpha_refused : {number place : ℕ} → refused number place ≡ sized (writing_alpha_under im n room) → AlphaRefused im n room
-  unfolding sized
-  alpha_refused {number} {place} h = go (truncation 0 im n) refl
-    where
-      go : (a : Answer Truncated) → truncation 0 im n ≡ a → AlphaRefused im n room
-      go (done t) k = never_done {number = number} {place = place} (h ∙ ap sized (alpha_given k))
-      go (refused x y) k = record { number = x; place = y; truncated = k; answer = writing_under_refused im n room (under_refused im n k) }
+    -- what the number prints
+    abbrev prints : Marks → List ℕ
+    prints m = or_field field (number_marked m field n)
 
-  -- else its text is written
-  pub alpha_written : {size : ℕ} → done size ≡ sized (writing_alpha_under im n room) → AlphaWritten im n room
-  unfolding sized
-  alpha_written {size} h = go (truncation 0 im n) refl
-    where
-      go : (a : Answer Truncated) → truncation 0 im n ≡ a → AlphaWritten im n room
-      go (done t) k = record { to = t; truncated = k; answer = alpha_given k }
-      go (refused x y) k = never_done {number = x} {place = y} (sym (ap sized (writing_under_refused im n room (under_refused im n k))) ∙ sym h)
+    -- where the call refuses it, the field's bytes stay, and are what it prints
+    pub alpha_refused : (m : Marks) {number place : ℕ} {after : List ℕ}
+        → refused number place ≡ sized (writing_alpha_under im n (length field))
+        → after ≡ stored_in (writing_alpha_under im n (length field)) field
+        → after ≡ prints m
+    unfolding sized stored_in
+    alpha_refused m {number} {place} {after} h bytes = go (truncation 0 im n) refl
+      where
+        go : (a : Answer Truncated) → truncation 0 im n ≡ a → after ≡ prints m
+        go (done t) k = never_done {number = number} {place = place} (h ∙ ap sized (alpha_given k))
+        go (refused x y) k =
+            bytes
+            ∙ ap (λ (a : Answer (List ℕ)). stored_in a field) (writing_under_refused im n (length field) (under_refused im n k))
+            ∙ sym (number_refused m field n (ap (λ (i : Image). truncation 0 i n) (sym f.read) ∙ k))
+
+    -- else its text is written, and has the field's length
+    pub record AlphaWritten (after : List ℕ) : Type 0 where
+      pub to : Truncated
+      pub truncated : truncation 0 im n ≡ done to
+      pub text : after ≡ alpha_text im to
+      pub long : length after ≡ text_length im
+
+    pub alpha_written : {size : ℕ} {after : List ℕ}
+        → done size ≡ sized (writing_alpha_under im n (length field))
+        → after ≡ stored_in (writing_alpha_under im n (length field)) field
+        → AlphaWritten after
+    unfolding sized
+    alpha_written {size} {after} h bytes = go (truncation 0 im n) refl
+      where
+        go : (a : Answer Truncated) → truncation 0 im n ≡ a → AlphaWritten after
+        go (done t) k =
+            let text : after ≡ alpha_text im t =
+            bytes
+            ∙ ap (λ (a : Answer (List ℕ)). stored_in a field) (alpha_given k)
+            ∙ stored_all (alpha_text im t) field (text_length_lem im t ∙ exponential_length) in
+            record { to = t; truncated = k; text = text; long = ap length text ∙ text_length_lem im t }
+        go (refused x y) k =
+            never_done {number = x} {place = y} (sym (ap sized (writing_under_refused im n (length field) (under_refused im n k))) ∙ sym h)
+
+    -- with its point marked it is what the number prints
+    pub alpha_marked : (m : Marks) {text after : List ℕ} → AlphaWritten text → after ≡ point_marked m im text → after ≡ prints m
+    alpha_marked m w h =
+        let kind = sym (ap (λ (i : Image). i.exponential) f.read) ∙ e in
+        let to = ap (λ (i : Image). truncation 0 i n) (sym f.read) ∙ w.truncated in
+        h
+        ∙ ap (point_marked m im) w.text
+        ∙ point_marked_lem m im w.to
+        ∙ ap (λ (i : Image). with_decimal m (alpha_text i w.to)) f.read
+        ∙ sym (number_alpha m field n to kind)
 
 -- What a number prints.
 
@@ -374,56 +359,26 @@ element_length {field} is texts (element.Text start size) = filled_length blank_
 
 -- Spilled or not.
 
-module _ (m : Marks) (field : List ℕ) (n : Number) where
-  -- a number that is refused prints the field
-  pub number_refused : {number place : ℕ} → truncation 0 (scanned_image field) n ≡ refused number place → or_field field (number_marked m field n) ≡ field
-  unfolding number_marked ◌then◌ or_field
-  number_refused h =
-      ap (λ (a : Answer Truncated). or_field field (a then λ t. done (shown_marked m field (scanned_image field) t))) h
-
-  -- any other is shown
-  pub number_shown : {t : Truncated} → truncation 0 (scanned_image field) n ≡ done t → or_field field (number_marked m field n) ≡ shown_marked m field (scanned_image field) t
-  unfolding number_marked ◌then◌ or_field
-  number_shown h =
-      ap (λ (a : Answer Truncated). or_field field (a then λ t. done (shown_marked m field (scanned_image field) t))) h
-
-  -- in fixed point it fills the field
-  pub number_fixed :
-      {t : Truncated}
-      → truncation 0 (scanned_image field) n ≡ done t
-      → (scanned_image field).exponential ≡ false
-      → or_field field (number_marked m field n) ≡ fill_bytes m (scanned_image field) t nothing_filled field
-  unfolding shown_marked
-  number_fixed h e = number_shown h ∙ rw e
-
-  -- in exponential form it prints as alpha text, with the decimal mark
-  pub number_alpha :
-      {t : Truncated}
-      → truncation 0 (scanned_image field) n ≡ done t
-      → (scanned_image field).exponential ≡ true
-      → or_field field (number_marked m field n) ≡ with_decimal m (alpha_text (scanned_image field) t)
-  unfolding shown_marked
-  number_alpha h e = number_shown h ∙ rw e
-
+module _ (field : List ℕ) (n : Number) where
   -- a number that fits is not spilled
-  pub spilled_not : done tt ≡ checked_only (truncation 0 (scanned_image field) n) → false ≡ eqb (spilled_by (number_marked m field n)) 1
+  pub spilled_not : done tt ≡ checked_only (truncation 0 (scanned_image field) n) → spilled_by (number_in field n) ≡ 0
   unfolding checked_only number_marked ◌then◌ spilled_by
   spilled_not h = go (truncation 0 (scanned_image field) n) h
     where
       go : (a : Answer Truncated) → done tt ≡ checked_only a
-          → false ≡ eqb (spilled_by (a then λ t. done (shown_marked m field (scanned_image field) t))) 1
+          → spilled_by (a then λ t. done (shown_marked document_marks field (scanned_image field) t)) ≡ 0
       go (done t) e = refl
-      go (refused number place) e = let z : ◌≡◌ {A = ℕ} 0 1 = cc in absurd (omega arith)
+      go (refused number place) e = never_done (sym e)
 
   -- a number that is refused is
   pub spilled_is :
-      {number place : ℕ} → refused number place ≡ checked_only (truncation 0 (scanned_image field) n) → true ≡ eqb (spilled_by (number_marked m field n)) 1
+      {number place : ℕ} → refused number place ≡ checked_only (truncation 0 (scanned_image field) n) → spilled_by (number_in field n) ≡ 1
   unfolding checked_only number_marked ◌then◌ spilled_by
   spilled_is {number} {place} h = go (truncation 0 (scanned_image field) n) h
     where
       go : (a : Answer Truncated) → refused number place ≡ checked_only a
-          → true ≡ eqb (spilled_by (a then λ t. done (shown_marked m field (scanned_image field) t))) 1
-      go (done t) e = let z : ◌≡◌ {A = ℕ} 0 1 = cc in absurd (omega arith)
+          → spilled_by (a then λ t. done (shown_marked document_marks field (scanned_image field) t)) ≡ 1
+      go (done t) e = never_done e
       go (refused x y) e = refl
 
 -- Published: whether a number is spilled does not depend on the marks.

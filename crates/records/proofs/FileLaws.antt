@@ -1,6 +1,7 @@
 -- Laws of record files: what reading one tells, and where its bodies stand. Assumes nothing.
 use Prim.Native.Nat.{ℕ, suc, ◌+◌, ◌-◌, ◌*◌, ◌/◌, ◌%◌, ◌<◌, ◌≤◌}
-use mathlib.Core.Path.{◌≡◌, refl, ap, sym, subst, ◌∙◌}
+use mathlib.Core.Path.{◌≡◌, refl, ap, sym, subst, subst⁻¹, ◌∙◌}
+use Rattle.std.specs.declared.ops.Range.{Range}
 use mathlib.Core.Bool.{Bool, true, false}
 use mathlib.Core.List.{List, [], ◌++◌}
 use native.Mathlib.Omega.{arith}
@@ -8,22 +9,18 @@ use native.Mathlib.Nat.{suc-mul, le-div_iff_mul-le}
 use lib.ListN.{length, take, drop, take-append-drop, length-drop}
 use lib.Dec.{ltb, eqb}
 use borrow.Author.Tests.{lt-ltb, le-ltb, ltb-true, ltb-false, eq-eqb, ne_eqb, eqb-true}
-use Rattle.decimal.specs.declared.refusal.Refusal.{Refusal}
 use Rattle.decimal.specs.declared.image.Image.{Image}
 use Rattle.decimal.specs.declared.number.Number.{Number}
-use Rattle.decimal.specs.Answer.{Answer, done, refused, ◌then◌, pick}
+use Rattle.decimal.specs.Answer.{Answer, done, refused, ◌then◌, pick, mapped}
 use Rattle.codec.specs.declared.contents.Contents.{Contents}
-use Rattle.decimal.specs.declared.refusal.CheckAnswer.TheVariants as checks
-use Rattle.codec.specs.Answers.{stored_in, within, written, sized}
-use Rattle.codec.specs.Lists.{image_list}
+use Rattle.codec.specs.Answers.{stored_in, within, sized}
 use Rattle.codec.specs.Columns.{body_size}
 use Rattle.codec.specs.Contents.{Table, read_contents, read_alone, contents_of}
 use Rattle.codec.specs.Packing.{pack_list, pack_under, packing_under}
-use Rattle.decimal.proofs.AnswerLaws.{never_done, then_done}
-use Rattle.codec.proofs.ContentsLaws.{contents_sound, TableTold, told_read, told_refused}
+use Rattle.decimal.proofs.AnswerLaws.{never_done, then_done, mapped_back}
+use Rattle.codec.proofs.ContentsLaws.{TableTold, told_read}
 use Rattle.codec.proofs.FrontLaws.{contents_within, contents_body, contents_checks}
-use Rattle.codec.proofs.UnderLaws.{told_images, pack_under_checked}
-use Rattle.codec.proofs.BufferLaws.{written_stored}
+use Rattle.codec.proofs.UnderLaws.{pack_under_checked}
 use Rattle.records.specs.Files.{
   starting_file,
   read_file,
@@ -34,6 +31,7 @@ use Rattle.records.specs.Files.{
   written_behind,
   Part,
   shown,
+  range_of,
   part_of,
   shown_part,
 }
@@ -72,11 +70,11 @@ module _ (contents buffer : List ℕ) where
   pub writes_file :
       {after : List ℕ}
       → starting_file contents (length buffer) ≡ done contents
-      → after ≡ written buffer 0 contents
+      → after ≡ contents ++ drop (length contents) buffer
       → (done (length contents) ≡ sized (starting_file contents (length buffer)))
       × (after ≡ stored_in (starting_file contents (length buffer)) buffer)
-  unfolding sized
-  writes_file h w = (sym (ap sized h), w ∙ written_stored buffer contents ∙ sym (ap (λ (k : Answer (List ℕ)). stored_in k buffer) h))
+  unfolding sized stored_in
+  writes_file h w = (sym (ap sized h), w ∙ sym (ap (λ (k : Answer (List ℕ)). stored_in k buffer) h))
 
 -- Reading a file.
 
@@ -93,7 +91,7 @@ pub record FileRead (file : List ℕ) (table : Table) : Type 0 where
 
 module _ (file : List ℕ) where
   -- a file is refused as its contents is
-  file_first : {number place : ℕ} → read_contents file ≡ refused number place → read_file file ≡ refused number place
+  pub file_first : {number place : ℕ} → read_contents file ≡ refused number place → read_file file ≡ refused number place
   unfolding read_file ◌then◌
   file_first h = rw h
 
@@ -131,35 +129,30 @@ module _ (file : List ℕ) where
           }
       go t false e h p = never_done p
 
-  module _ (r : Contents) (h : r ≡ contents_of (read_contents file)) where
-    -- so the code's answer is the file's where the contents is refused
-    pub file_stops : (refusal : Refusal) → r.answer ≡ checks.Refused refusal → r ≡ contents_of (read_file file)
-    file_stops refusal e = let q = told_refused (read_contents file) r refusal h e in h ∙ ap contents_of (q ∙ sym (file_first q))
+  module _ {r : Contents} (h : done r ≡ mapped contents_of (read_contents file)) where
+    -- what the code has read
+    told : TableTold (read_contents file) r
+    told = told_read (read_contents file) h
 
     -- its own length is within the file
-    pub size_within : r.answer ≡ checks.Fine → r.size ≤ length file
-    size_within e = let t = told_read (read_contents file) r h e in omega (arith, t.size, contents_within file t.reads)
+    pub size_within : r.size ≤ length file
+    size_within = omega (arith, told.size, contents_within file told.reads)
 
     -- a body is not empty
-    pub body_some : r.answer ≡ checks.Fine → 0 < r.body
-    body_some e = let t = told_read (read_contents file) r h e in omega (arith, t.body, contents_body file t.reads)
+    pub body_some : 0 < r.body
+    body_some = omega (arith, told.body, contents_body file told.reads)
 
-    module _ (e : r.answer ≡ checks.Fine) where
-      -- what the code has read
-      told : TableTold (read_contents file) r
-      told = told_read (read_contents file) r h e
+    -- the bytes behind the last whole body, as the code counts them
+    left_over : (length file - r.size) % r.body ≡ left_over_of told.table file
+    left_over = λ i. (length file - told.size i) % told.body i
 
-      -- the bytes behind the last whole body, as the code counts them
-      left_over : (length file - r.size) % r.body ≡ left_over_of told.table file
-      left_over = λ i. (length file - told.size i) % told.body i
+    -- the code's contents is the file's where there are none
+    pub file_whole : (length file - r.size) % r.body ≡ 0 → done r ≡ mapped contents_of (read_file file)
+    file_whole w = h ∙ ap (mapped contents_of) (told.reads ∙ sym (file_done told.reads (sym left_over ∙ w)))
 
-      -- the answer is the file's where there are none
-      pub file_whole : (length file - r.size) % r.body ≡ 0 → r ≡ contents_of (read_file file)
-      file_whole w = h ∙ ap contents_of (told.reads ∙ sym (file_done told.reads (sym left_over ∙ w)))
-
-      -- else the file is refused
-      pub file_torn : ((length file - r.size) % r.body ≡ 0 → ⊥) → read_file file ≡ refused 11 0
-      file_torn w = file_short told.reads (λ z. w (left_over ∙ z))
+    -- else the file is refused
+    pub file_torn : ((length file - r.size) % r.body ≡ 0 → ⊥) → read_file file ≡ refused 11 0
+    file_torn w = file_short told.reads (λ z. w (left_over ∙ z))
 
 module _ (buffer : List ℕ) (used : ℕ) where
   -- a used length past the buffer
@@ -234,46 +227,34 @@ shown_inside file r {p} h =
         subst (λ (x : Part). x.start + x.size ≤ length file) same inside
     go t false e read q = never_done q
 
-module _ (file : List ℕ) (r : Contents) (h : r ≡ contents_of (read_file file)) (e : r.answer ≡ checks.Fine) where
+module _ (file : List ℕ) {r : Contents} (h : done r ≡ mapped contents_of (read_file file)) where
   -- what the code has read of a file
-  file_table : Table
-  file_table = (told_read (read_file file) r h e).table
-
-  file_reads : read_file file ≡ done file_table
-  unfolding file_table
-  file_reads = (told_read (read_file file) r h e).reads
-
-  file_size : r.size ≡ file_table.size
-  unfolding file_table
-  file_size = (told_read (read_file file) r h e).size
-
-  file_body : r.body ≡ body_size file_table.images
-  unfolding file_table
-  file_body = (told_read (read_file file) r h e).body
+  file_told_read : TableTold (read_file file) r
+  file_told_read = told_read (read_file file) h
 
   -- its contents is within it, and a body is not empty
   pub read_within : r.size ≤ length file
-  read_within = omega (arith, file_size, (file_told file file_reads).within)
+  read_within = omega (arith, file_told_read.size, (file_told file file_told_read.reads).within)
 
   pub read_some : 0 < r.body
-  read_some = omega (arith, file_body, (file_told file file_reads).some)
+  read_some = omega (arith, file_told_read.body, (file_told file file_told_read.reads).some)
 
   -- the count of its records
-  read_count : (length file - r.size) / r.body ≡ record_count file_table file
+  read_count : (length file - r.size) / r.body ≡ record_count file_told_read.table file
   unfolding record_count
-  read_count = λ i. (length file - file_size i) / file_body i
+  read_count = λ i. (length file - file_told_read.size i) / file_told_read.body i
 
   module _ (index : ℕ) where
     -- where there is no such record
     pub read_none : (length file - r.size) / r.body ≤ index → shown file index ≡ refused 12 0
-    read_none l = shown_none file index file_reads (omega (arith, read_count))
+    read_none l = shown_none file index file_told_read.reads (omega (arith, read_count))
 
     module _ (l : index < (length file - r.size) / r.body) where
       -- and where there is
       pub read_shown : shown file index ≡ done (record { start = r.size + index * r.body; size = r.body })
       read_shown =
-          shown_there file index file_reads (omega (arith, read_count))
-          ∙ λ i. done (record { start = sym file_size i + index * sym file_body i; size = sym file_body i })
+          shown_there file index file_told_read.reads (omega (arith, read_count))
+          ∙ λ i. done (record { start = sym file_told_read.size i + index * sym file_told_read.body i; size = sym file_told_read.body i })
 
       -- its body ends within the file
       pub read_inside : r.size + index * r.body + r.body ≤ length file
@@ -288,6 +269,18 @@ unfolding part_of
 part_between file r start size h =
     let n : start + size - start ≡ size = omega arith in
     ap (λ (k : ℕ). take k (drop start file)) n ∙ sym (ap (part_of file) h)
+
+-- the same of the code's range
+pub record RangeShown (file : List ℕ) (index : ℕ) (q : Range ℕ) : Type 0 where
+  pub ordered : q.start ≤ q.end
+  pub inside : q.end ≤ length file
+  pub part : take (q.end - q.start) (drop q.start file) ≡ shown_part file index
+
+pub range_shown : (file : List ℕ) (index : ℕ) {q : Range ℕ} → done q ≡ mapped range_of (shown file index) → RangeShown file index q
+range_shown file index {q} h =
+    let t = mapped_back range_of (shown file index) h in
+    subst⁻¹ (RangeShown file index) t.2
+    (record { ordered = omega arith; inside = shown_inside file index t.1; part = part_between file index t.0.start t.0.size t.1 })
 
 -- nothing where it is refused
 pub part_refused : (file : List ℕ) (r : ℕ) {number place : ℕ} → shown file r ≡ refused number place → [] ≡ shown_part file r
@@ -392,27 +385,25 @@ adds_refused buffer used ns h =
     (sym (ap (new_length used) r), sym (ap (λ (a : Answer (List ℕ)). written_behind used a buffer) r))
 
 module _
-    (buffer : List ℕ) (used : ℕ) (ns : List Number) (r : Contents)
-    (h : r ≡ contents_of (read_used buffer used)) (e : r.answer ≡ checks.Fine)
+    (buffer : List ℕ) (used : ℕ) (ns : List Number) {r : Contents} (h : done r ≡ mapped contents_of (read_used buffer used)) {ims : List Image}
+    (lent : ims ≡ r.images.items)
   where
     -- the used length is within the buffer
     pub adds_within : used ≤ length buffer
-    adds_within = (used_told buffer used (told_read (read_used buffer used) r h e).reads).0
+    adds_within = (used_told buffer used (told_read (read_used buffer used) h).reads).0
 
     -- the list, packed under the images that the code has read, into what follows the used length
     abbrev packed_behind : Answer (List ℕ)
-    packed_behind = packing_under (image_list r.images) ns (length (part_behind buffer used))
+    packed_behind = packing_under ims ns (length (part_behind buffer used))
 
     -- this is what is added
     adds_under : packed_behind ≡ added buffer used ns
     unfolding packing_under
     adds_under =
-        let t = told_read (read_used buffer used) r h e in
+        let t = told_read (read_used buffer used) h in
         let contents = (file_told (take used buffer) (used_told buffer used t.reads).1).contents in
-        let images : image_list r.images ≡ t.table.images =
-        told_images t.table (contents_sound (take used buffer) contents).high (h ∙ ap contents_of t.reads) in
-        let packs : pack_under (image_list r.images) ns ≡ pack_list t.table.images ns =
-        ap (λ (ims : List Image). pack_under ims ns) images
+        let packs : pack_under ims ns ≡ pack_list t.table.images ns =
+        ap (λ (xs : List Image). pack_under xs ns) (lent ∙ t.images)
         ∙ pack_under_checked t.table.images ns (contents_checks (take used buffer) contents) in
         let room : length (part_behind buffer used) ≡ length buffer - used = ap length (behind_all buffer used) ∙ length-drop used buffer in
         (λ i. packs i then within (room i)) ∙ sym (added_packed buffer used ns t.reads)

@@ -1,82 +1,93 @@
 -- The laws of a line's fields: found from the left, and the next one behind a place of the line.
 -- Assumes nothing.
-use Prim.Native.Nat.{ℕ, zero, suc, pred, ◌+◌, ◌-◌, ◌<◌, ◌≤◌}
+use Prim.Native.Nat.{ℕ, zero, suc, pred, ◌+◌, ◌-◌, ◌<◌, ◌≤◌, min}
 use native.Mathlib.Omega.{arith}
 use native.Mathlib.Numerals.{add-one}
 use mathlib.Core.Path.{◌≡◌, refl, ap, sym, ◌∙◌, subst}
 use mathlib.Core.Logic.{◌⊎◌, ⊎_elim}
 use mathlib.Core.List.{List, [], ◌∷◌, ◌++◌}
-use mathlib.Core.Bool.{Bool, true, false}
-use lib.Dec.{eqb}
-use lib.ListN.{length, take, drop, get_or, set, drop_of_length-le, length-drop}
-use lib.Seq.{drop-cons, drop-drop, length-take-le, take_all, get_or-take, get_or-drop}
-use borrow.Author.Tests.{eq-eqb, ne_eqb}
+use mathlib.Core.Bool.{Bool, true, false, cond, ◌||◌}
+use lib.Dec.{eqb, ltb}
+use lib.ListN.{length, take, drop, get_or, drop_of_length-le, length-drop}
+use lib.Seq.{drop-cons, drop-drop, length-take-le, take_all, get_or-take}
+use borrow.Author.Tests.{eq-eqb, ne_eqb, ltb-false}
+use Rattle.std.proofs.Common.{Option, Some, None}
+use Rattle.std.proofs.lemmas.List.{length-take, take_rest}
+use Rattle.std.proofs.lemmas.List.Quantifiers.{position-Some}
+use Rattle.std.proofs.lemmas.List.Sums.{fails_before_first}
+use Rattle.std.specs.List.{position, position_or_len}
 use Rattle.decimal.specs.declared.image.Sign.{Sign}
+use Rattle.decimal.specs.declared.image.Sign.TheVariants.{Unsigned}
 use Rattle.decimal.specs.Image.{Start, Stopped}
-use Rattle.decimal.specs.declared.refusal.CheckAnswer.TheVariants as answers
 use Rattle.decimal.specs.Answer.{done, refused, pick}
-use Rattle.decimal.proofs.AnswerLaws.{never}
 use Rattle.decimal.specs.Digits.{precision}
 use Rattle.decimal.specs.Image.{plus_byte, minus_byte, hash_byte, point_byte, comma_byte, up_byte, hashes, next_state, sign_of, leading_sign, scanned_image}
 use Rattle.decimal.proofs.DigitLaws.{le_or_lt}
 use Rattle.decimal.proofs.ImageLaws.{first_sign}
-use Rattle.codec.specs.Lists.{filled}
-use Rattle.codec.proofs.ListLaws.{filled_at, filled_set}
 use Rattle.records.specs.declared.finding.Field.{Field}
-use Rattle.records.specs.declared.finding.Fields.{Fields}
 use Rattle.records.specs.declared.scanning.Scanned.{Scanned}
 use Rattle.records.specs.Scanning.{longest_from, field_length, scanned_field}
 use Rattle.records.specs.Printing.{literals, check_fields, Reached, at_start, after_field}
-use Rattle.records.specs.Finding.{field_of, fields_from, fields_at, line_fields, max_fields, no_field, LiteralAlways, Skipped, Listed, FieldsFound}
-use Rattle.records.proofs.ScanLaws.{stopped_none}
+use Rattle.records.specs.Finding.{field_of, fields_from, fields_at, line_fields, max_fields, begins_field, Listed}
+use Rattle.records.proofs.ScanLaws.{stopped_none, scanned_length}
 use Rattle.records.proofs.FieldTheorem.{longest_field}
 use Rattle.records.proofs.CheckLaws.{no_bytes_field, left_cons, literals_literal, literals_inside, literals_stop, some_literal, literal_first, check_literal, check_field, check_many, check_end, field_inside, hashes_few, drop_pred, reached_next}
 
 -- Bytes that begin no field.
 
 -- other bytes than + - # . lead nowhere
-pub starts_not : (b : ℕ) → (b ≡ plus_byte → ⊥) → (b ≡ minus_byte → ⊥) → (b ≡ hash_byte → ⊥) → (b ≡ point_byte → ⊥) → LiteralAlways b
-unfolding LiteralAlways field_length longest_from next_state
-starts_not b plus minus hash point =
-    λ bs. rw (stops, stopped_none 1 bs)
+starts_not : (b : ℕ) → begins_field b ≡ false → (bs : List ℕ) → field_length (b ∷ bs) ≡ 0
+unfolding field_length longest_from next_state
+starts_not b h bs = rw (stops, stopped_none 1 bs)
   where
+    either : (s t : Bool) → (s || t) ≡ false → (s ≡ false) × (t ≡ false)
+    either false t e = (refl, e)
+    either true t e = let z : ◌≡◌ {A = ℕ} 0 1 = cc in absurd (omega arith)
+
     go : (s t : Bool) → pick s Stopped (pick t Stopped Stopped) ≡ Stopped
     go true t = refl
     go false true = refl
     go false false = refl
 
     stops : next_state Start b ≡ Stopped
-    stops = rw (ne_eqb b plus_byte plus, ne_eqb b minus_byte minus, ne_eqb b hash_byte hash, ne_eqb b point_byte point) (go (eqb b comma_byte) (eqb b up_byte))
+    stops =
+        let p = either (eqb b plus_byte) (eqb b minus_byte || (eqb b hash_byte || eqb b point_byte)) h in
+        let m = either (eqb b minus_byte) (eqb b hash_byte || eqb b point_byte) p.1 in
+        let n = either (eqb b hash_byte) (eqb b point_byte) m.1 in
+        rw (p.0, m.0, n.0, n.1) (go (eqb b comma_byte) (eqb b up_byte))
 
--- no byte is passed over
-pub skipped_none : (line : List ℕ) (from : ℕ) → from ≤ length line → Skipped line from from
-skipped_none line from h = record { ahead = omega arith; inside = h; literal = λ k l m. absurd (omega arith) }
+-- so many bytes that bytes begin with are literal
+pub record Skipped (bytes : List ℕ) (size : ℕ) : Type 0 where
+  pub inside : size ≤ length bytes
+  pub literal : (k : ℕ) → k < size → field_length (drop k bytes) ≡ 0
 
--- one byte more
-pub skipped_next : {line : List ℕ} {from to : ℕ} → Skipped line from to → to < length line → LiteralAlways (get_or line to 0)
-    → Skipped line from (to + 1)
-unfolding LiteralAlways
-skipped_next {line} {from} {to} s h l =
-    let a = s.ahead in
+-- bytes of which none can begin a field are literal
+skipped_from : (bytes : List ℕ) (size : ℕ) → size ≤ length bytes → ((k : ℕ) → k < size → begins_field (get_or bytes k 0) ≡ false) → Skipped bytes size
+skipped_from bytes size h none =
     record {
-      ahead = omega arith;
-      inside = omega arith;
+      inside = h;
       literal =
-          λ k m n.
-          ⊎_elim
-          (λ e. let same : k ≡ to = omega arith in ap (λ (i : ℕ). field_length (drop i line)) same ∙ ap field_length (left_cons line to h) ∙ l (drop (to + 1) line))
-          (λ e. s.literal k m e)
-          (le_or_lt to k);
+          λ k l. ap field_length (left_cons bytes k (omega arith)) ∙ starts_not (get_or bytes k 0) (none k l) (drop (k + 1) bytes);
     }
 
--- what goes on over each literal byte goes on over all of them
-skipped_over : {line : List ℕ} (P : ℕ → Type 0) → ((k : ℕ) → k < length line → field_length (drop k line) ≡ 0 → P k → P (k + 1)) → (n : ℕ) {from to : ℕ}
-    → to ≡ from + n → Skipped line from to → P from → P to
-skipped_over P one zero {from} {to} e s p = let same : from ≡ to = omega arith in subst P same p
-skipped_over P one (suc n) {from} {to} e s p =
-    let rest : Skipped _ (from + 1) to =
-    record { ahead = omega arith; inside = s.inside; literal = λ k m l. s.literal k (omega arith) l } in
-    skipped_over P one n {from = from + 1} (omega arith) rest (one from (omega (arith, s.inside)) (s.literal from (omega arith) (omega arith)) p)
+-- so are those before the first that can
+pub skipped_some : (bytes : List ℕ) {size : ℕ} → position begins_field bytes ≡ Some size → Skipped bytes size × (size < length bytes)
+skipped_some bytes {size} e =
+    let p = position-Some begins_field bytes size 0 e in
+    (skipped_from bytes size (omega (arith, p.0)) p.2, p.0)
+
+-- and all, where none can
+pub skipped_all : (bytes : List ℕ) → position begins_field bytes ≡ None → Skipped bytes (length bytes)
+skipped_all bytes e = skipped_from bytes (length bytes) (omega arith) (λ k l. fails_before_first begins_field bytes k 0 (none k l))
+  where
+    go : (b : Bool) (n : ℕ) → ◌≡◌ {A = Option ℕ} (cond b (Some n) None) None → b ≡ false
+    go true n h = let z : ◌≡◌ {A = ℕ} 0 1 = cc in absurd (omega arith)
+    go false n h = refl
+
+    none : (k : ℕ) → k < length bytes → k < position_or_len begins_field bytes
+    none k l =
+        let past = go (ltb (position_or_len begins_field bytes) (length bytes)) (position_or_len begins_field bytes) e in
+        omega (arith, ltb-false (position_or_len begins_field bytes) (length bytes) past)
 
 -- The fields from a place on.
 
@@ -146,167 +157,187 @@ fields_over line (suc n) k e =
     let z : k + suc n ≡ k + 1 + n = omega arith in
     ap (fields_at line) z ∙ fields_over line n (k + 1) (omega arith) ∙ fields_literal line k f
 
--- The walk over a line that finds them: those found so far stand in the array, and the others are still to come.
+-- a scanned field's # signs
+pub scanned_hashes : (bytes : List ℕ) {scanned : Scanned} → scanned ≡ scanned_field bytes
+    → scanned.integer + scanned.fraction ≡ hashes (scanned_image (take (field_length bytes) bytes))
+unfolding scanned_field
+scanned_hashes bytes e = ap (λ (s : Scanned). s.integer + s.fraction) e
+
+-- it is no longer than the bytes, and has no more # signs
+pub scanned_few : (bytes : List ℕ) {scanned : Scanned} → scanned ≡ scanned_field bytes
+    → (scanned.length ≤ length bytes) × (scanned.integer + scanned.fraction ≤ length bytes)
+scanned_few bytes e =
+    let f : List ℕ = take (field_length bytes) bytes in
+    let inside = (longest_field bytes).inside in
+    (omega (arith, scanned_length bytes e), omega (arith, scanned_hashes bytes e, hashes_few f, length-take-le (field_length bytes) bytes inside))
+
+-- The walk over a line that finds them: so many are found, the first ones are listed, and the others are still to come.
 
 pub record Finding (line : List ℕ) (fields : List Field) (count place : ℕ) : Type 0 where
   pub few : count ≤ place
   pub within : count ≤ length (line_fields line)
-  pub inside : place ≤ length line + 1
+  pub inside : place ≤ length line
   pub checks : check_fields count 0 (drop place line) ≡ check_fields 0 0 line
   pub rest : drop count (line_fields line) ≡ fields_at line place
-  pub held : fields ≡ filled max_fields no_field (take count (line_fields line))
+  pub held : fields ≡ take max_fields (take count (line_fields line))
 
 -- before the first byte
-pub finding_starts : (line : List ℕ) → Finding line (filled max_fields no_field []) 0 0
+pub finding_starts : (line : List ℕ) → Finding line [] 0 0
 finding_starts line =
     record { few = omega arith; within = omega arith; inside = omega arith; checks = refl; rest = refl; held = refl }
 
--- an array that is full takes no more
-filled_full : {A : Type 0} (d : A) (n m : ℕ) (xs : List A) → n ≤ m → filled n d (take m xs) ≡ filled n d xs
-unfolding filled
-filled_full d zero m xs h = refl
-filled_full d (suc n) zero xs h = absurd (omega arith)
-filled_full d (suc n) (suc m) [] h = refl
-filled_full d (suc n) (suc m) (x ∷ xs) h = ap (λ (l : List _). x ∷ l) (filled_full d n m xs (omega arith))
-
--- the place of a field is inside the line
-field_there : (line : List ℕ) (k : ℕ) → (field_length (drop k line) ≡ 0 → ⊥) → k < length line
-field_there line k e =
-    ⊎_elim (λ h. absurd (e (ap field_length (drop_of_length-le line h) ∙ no_bytes_field))) (λ h. h) (le_or_lt (length line) k)
+-- of a list's first elements so many
+take_fewer : {A : Type 0} (n m : ℕ) (xs : List A) → n ≤ m → take n (take m xs) ≡ take n xs
+take_fewer zero m xs h = refl
+take_fewer (suc n) zero xs h = absurd (omega arith)
+take_fewer (suc n) (suc m) [] h = refl
+take_fewer (suc n) (suc m) (x ∷ xs) h = ap (λ (l : List _). x ∷ l) (take_fewer n m xs (omega arith))
 
 -- a list's first elements with the next one
-take_next : {A : Type 0} (d x : A) (xs rest : List A) (n : ℕ) → drop n xs ≡ x ∷ rest → (take (n + 1) xs ≡ take n xs ++ (x ∷ [])) × (drop (n + 1) xs ≡ rest) × (n < length xs)
-take_next d x [] rest zero e = let z : ◌≡◌ {A = ℕ} 0 1 = cc in absurd (omega arith)
-take_next d x [] rest (suc n) e = let z : ◌≡◌ {A = ℕ} 0 1 = cc in absurd (omega arith)
-take_next d x (y ∷ xs) rest zero e = (cc, cc, omega arith)
-take_next d x (y ∷ xs) rest (suc n) e =
-    let r = take_next d x xs rest n e in
+take_next : {A : Type 0} (x : A) (xs rest : List A) (n : ℕ) → drop n xs ≡ x ∷ rest → (take (n + 1) xs ≡ take n xs ++ (x ∷ [])) × (drop (n + 1) xs ≡ rest) × (n < length xs)
+take_next x [] rest zero e = let z : ◌≡◌ {A = ℕ} 0 1 = cc in absurd (omega arith)
+take_next x [] rest (suc n) e = let z : ◌≡◌ {A = ℕ} 0 1 = cc in absurd (omega arith)
+take_next x (y ∷ xs) rest zero e = (cc, cc, omega arith)
+take_next x (y ∷ xs) rest (suc n) e =
+    let r = take_next x xs rest n e in
     (rw (add-one (suc n)) (ap (λ (l : List _). y ∷ l) (rw (add-one n) at r.0)), rw (add-one (suc n)) (rw (add-one n) at r.1), omega (arith, r.2))
+
+-- the next element, listed where there is room
+held_next : {A : Type 0} (m n : ℕ) (xs : List A) {rest held next : List A} {x : A} → drop n xs ≡ x ∷ rest → held ≡ take m (take n xs)
+    → ((length held < m) × (next ≡ held ++ (x ∷ []))) ⊎ ((m ≤ length held) × (next ≡ held))
+    → next ≡ take m (take (n + 1) xs)
+held_next {A} m n xs {rest} {held} {next} {x} e h w =
+    let t = take_next x xs rest n e in
+    let size : length (take n xs) ≡ n = length-take-le n xs (omega (arith, t.2)) in
+    let long : length held ≡ min m n = ap length h ∙ length-take m (take n xs) ∙ ap (min m) size in
+    let more : length (take (n + 1) xs) ≡ n + 1 = length-take-le (n + 1) xs (omega (arith, t.2)) in
+    ⊎_elim
+    (λ p.
+    p.1
+    ∙ ap (λ (l : List A). l ++ (x ∷ [])) (h ∙ take_all m (take n xs) (omega (arith, p.0)))
+    ∙ sym t.0
+    ∙ sym (take_all m (take (n + 1) xs) (omega (arith, p.0))))
+    (λ p.
+    p.1
+    ∙ h
+    ∙ take_fewer m n xs (omega (arith, p.0))
+    ∙ sym (take_fewer m (n + 1) xs (omega (arith, p.0))))
+    w
 
 module _ {line : List ℕ} {fields : List Field} {count place : ℕ} (r : Finding line fields count place) where
   -- a literal byte is passed over
-  pub finding_literal : place ≤ length line → field_length (drop place line) ≡ 0 → Finding line fields count (place + 1)
+  finding_literal : place < length line → field_length (drop place line) ≡ 0 → Finding line fields count (place + 1)
   finding_literal h e =
       record {
         few = omega (arith, r.few);
         within = r.within;
         inside = omega arith;
-        checks =
-            ⊎_elim
-            (λ l. check_end count line (place + 1) (omega arith) ∙ sym (check_end count line place l))
-            (λ l. check_literal count line place l e)
-            (le_or_lt (length line) place)
-            ∙ r.checks;
+        checks = check_literal count line place h e ∙ r.checks;
         rest = r.rest ∙ sym (fields_literal line place e);
         held = r.held;
       }
 
   -- a field is refused for its # signs
-  pub finding_many : (field_length (drop place line) ≡ 0 → ⊥) → precision < hashes (scanned_image (take (field_length (drop place line)) (drop place line)))
+  finding_many : (field_length (drop place line) ≡ 0 → ⊥) → precision < hashes (scanned_image (take (field_length (drop place line)) (drop place line)))
       → check_fields 0 0 line ≡ refused 2 count
   finding_many e h = sym r.checks ∙ check_many count (drop place line) e h
 
-  -- all is found
-  finding_ends : length line ≤ place
-      → (check_fields 0 0 line ≡ done tt) × (fields ≡ filled max_fields no_field (line_fields line)) × (count ≡ length (line_fields line))
-  finding_ends h =
-      let none : drop count (line_fields line) ≡ [] = r.rest ∙ fields_end line place h in
-      let size : length (line_fields line) - count ≡ 0 = sym (length-drop count (line_fields line)) ∙ ap length none in
-      let all : take count (line_fields line) ≡ line_fields line = take_all count (line_fields line) (omega arith) in
-      (sym (sym (check_end count line place h) ∙ r.checks), r.held ∙ ap (filled max_fields no_field) all, omega (arith, r.within))
-
-  module _ (e : field_length (drop place line) ≡ 0 → ⊥)
-      (h : hashes (scanned_image (take (field_length (drop place line)) (drop place line))) ≤ precision) where
-    -- the next field of the list
-    finding_next : (take (count + 1) (line_fields line) ≡ take count (line_fields line) ++ (field_of place (drop place line) ∷ []))
-        × (drop (count + 1) (line_fields line) ≡ fields_at line (place + field_length (drop place line)))
-        × (count < length (line_fields line))
-    finding_next =
-        take_next no_field (field_of place (drop place line)) (line_fields line) (fields_at line (place + field_length (drop place line))) count
-        (r.rest ∙ fields_field line place e)
-
-    -- a field is passed over, and put into the array where it has room
-    finding_field : {next : List Field} → next ≡ filled max_fields no_field (take (count + 1) (line_fields line))
-        → Finding line next (count + 1) (place + field_length (drop place line))
-    finding_field {next} k =
-        let p = field_there line place e in
-        record {
-          few = omega (arith, r.few, e);
-          within = omega (arith, finding_next.2);
-          inside = omega (arith, field_inside line place (omega arith));
-          checks = check_field count line place e h ∙ r.checks;
-          rest = finding_next.1;
-          held = k;
-        }
-
-    -- it is put into the array
-    finding_put : count < max_fields
-        → Finding line (set fields count (field_of place (drop place line))) (count + 1) (place + field_length (drop place line))
-    finding_put l =
-        let first : List Field = take count (line_fields line) in
-        let size : length first ≡ count = length-take-le count (line_fields line) r.within in
-        finding_field
-        (ap (λ (x : List Field). set x count (field_of place (drop place line))) r.held
-        ∙ ap (λ (k : ℕ). set (filled max_fields no_field first) k (field_of place (drop place line))) (sym size)
-        ∙ filled_set no_field max_fields first (field_of place (drop place line)) (omega arith)
-        ∙ ap (filled max_fields no_field) (sym finding_next.0))
-
-    -- the array is full
-    finding_full : max_fields ≤ count → Finding line fields (count + 1) (place + field_length (drop place line))
-    finding_full l =
-        finding_field
-        (r.held
-        ∙ filled_full no_field max_fields count (line_fields line) l
-        ∙ sym (filled_full no_field max_fields (count + 1) (line_fields line) (omega arith)))
-
--- a field is passed over, and stands in the array where that has room
-pub finding_turn : {line : List ℕ} {fields next : List Field} {count place : ℕ} (size : ℕ) → Finding line fields count place
-    → size ≡ field_length (drop place line)
-    → (size ≡ 0 → ⊥)
-    → hashes (scanned_image (take (field_length (drop place line)) (drop place line))) ≤ precision
-    → ((count < max_fields) × (next ≡ set fields count (field_of place (drop place line)))) ⊎ ((max_fields ≤ count) × (next ≡ fields))
-    → Finding line next (count + 1) (place + size)
-finding_turn {line} {fields} {next} {count} {place} size r n e h w =
-    let some : field_length (drop place line) ≡ 0 → ⊥ = λ z. e (n ∙ z) in
-    let same : place + field_length (drop place line) ≡ place + size = omega arith in
-    subst (Finding line next (count + 1)) same
-    (⊎_elim
-    (λ p. subst (λ (l : List Field). Finding line l (count + 1) (place + field_length (drop place line))) (sym p.1) (finding_put r some h p.0))
-    (λ p. subst (λ (l : List Field). Finding line l (count + 1) (place + field_length (drop place line))) (sym p.1) (finding_full r some h p.0))
-    w)
-
--- a line is refused for a field
-pub found_refused : {line : List ℕ} {fields : List Field} {count place : ℕ} → check_fields 0 0 line ≡ refused 2 place
-    → FieldsFound line (record { answer = answers.Refused (record { number = 2; place = place }); fields = fields; count = count })
-found_refused h = record { answered = sym h; listed = λ d. never h d }
-
--- its fields are listed
-pub found_listed : {line : List ℕ} {fields : List Field} {count place : ℕ} → Finding line fields count place → length line ≤ place
-    → FieldsFound line (record { answer = answers.Fine; fields = fields; count = count })
-found_listed r h =
-    let all = finding_ends r h in
-    record { answered = sym all.0; listed = λ d. record { held = all.1; counted = all.2 } }
+  -- a field is passed over, and listed where there is room
+  finding_field : {size : ℕ} {next : List Field} → size ≡ field_length (drop place line) → (size ≡ 0 → ⊥)
+      → hashes (scanned_image (take (field_length (drop place line)) (drop place line))) ≤ precision
+      → ((length fields < max_fields) × (next ≡ fields ++ (field_of place (drop place line) ∷ []))) ⊎ ((max_fields ≤ length fields) × (next ≡ fields))
+      → Finding line next (count + 1) (place + size)
+  finding_field {size} {next} n e h w =
+      let some : field_length (drop place line) ≡ 0 → ⊥ = λ z. e (n ∙ z) in
+      let list = r.rest ∙ fields_field line place some in
+      let all = take_next (field_of place (drop place line)) (line_fields line) (fields_at line (place + field_length (drop place line))) count list in
+      rw n
+      (record {
+        few = omega (arith, r.few, some);
+        within = omega (arith, all.2);
+        inside = field_inside line place r.inside;
+        checks = check_field count line place some h ∙ r.checks;
+        rest = all.1;
+        held = held_next max_fields count (line_fields line) list r.held w;
+      })
 
 -- literal bytes are passed over
-pub finding_skips : {line : List ℕ} {fields : List Field} {count from to : ℕ} → Finding line fields count from → from ≤ length line → Skipped line from to
-    → Finding line fields count to
-finding_skips {line} {fields} {count} {from} {to} r h s =
-    skipped_over (Finding line fields count) (λ k l e f. finding_literal f (omega arith) e) (to - from) (omega (arith, s.ahead)) s r
+finding_over : {line : List ℕ} {fields : List Field} {count place : ℕ} (n : ℕ) → Finding line fields count place → Skipped (drop place line) n
+    → Finding line fields count (place + n)
+finding_over {line} {fields} {count} {place} zero r s =
+    let same : place ≡ place + 0 = omega arith in subst (Finding line fields count) same r
+finding_over {line} {fields} {count} {place} (suc n) r s =
+    let same : place + n + 1 ≡ place + suc n = omega arith in
+    let fewer : Skipped (drop place line) n = record { inside = omega (arith, s.inside); literal = λ k h. s.literal k (omega arith) } in
+    rw same at
+    (finding_literal (finding_over n r fewer) (omega (arith, s.inside, length-drop place line, r.inside))
+    (ap field_length (sym (drop-drop n place line)) ∙ s.literal n (omega arith)))
+
+-- A turn of the walk, from a place of the line on.
+
+module _ {line : List ℕ} {fields : List Field} {count place : ℕ} (r : Finding line fields count place) where
+  -- the bytes before the first that can begin a field are passed over
+  pub finding_skips : {size : ℕ} → position begins_field (take (length line - place) (drop place line)) ≡ Some size
+      → Finding line fields count (place + size) × (place + size < length line)
+  finding_skips {size} e =
+      let s = skipped_some (drop place line) (rw (take_rest line place) at e) in
+      (finding_over size r s.0, omega (arith, s.1, length-drop place line, r.inside))
+
+  -- where none can, all is found
+  pub finding_ends : position begins_field (take (length line - place) (drop place line)) ≡ None
+      → (check_fields 0 0 line ≡ done tt) × Listed line fields
+  finding_ends e =
+      let size : ℕ = length (drop place line) in
+      let end = finding_over size r (skipped_all (drop place line) (rw (take_rest line place) at e)) in
+      let over : length line ≤ place + size = omega (arith, length-drop place line) in
+      let none : drop count (line_fields line) ≡ [] = end.rest ∙ fields_end line (place + size) over in
+      let left : length (line_fields line) - count ≡ 0 = sym (length-drop count (line_fields line)) ∙ ap length none in
+      let all : take count (line_fields line) ≡ line_fields line = take_all count (line_fields line) (omega arith) in
+      (sym end.checks ∙ check_end count line (place + size) over, record { first = r.held ∙ ap (take max_fields) all })
+
+  module _ {scanned : Scanned} (e : scanned ≡ scanned_field (take (length line - place) (drop place line))) where
+    -- what was scanned is the field there
+    scanned_there : scanned ≡ scanned_field (drop place line)
+    scanned_there = e ∙ ap scanned_field (take_rest line place)
+
+    -- it ends inside the line, and has no more # signs than bytes
+    pub finding_inside : (place + scanned.length ≤ length line) × (scanned.integer + scanned.fraction ≤ length line)
+    finding_inside =
+        let few = scanned_few (drop place line) scanned_there in
+        (omega (arith, few.0, length-drop place line, r.inside), omega (arith, few.1, length-drop place line))
+
+    -- a literal byte is passed over
+    pub finding_byte : place < length line → scanned.length ≡ 0 → Finding line fields count (place + 1)
+    finding_byte h z = finding_literal r h (sym (scanned_length (drop place line) scanned_there) ∙ z)
+
+    module _ (some : scanned.length ≡ 0 → ⊥) where
+      -- a field is refused for its # signs
+      pub finding_refused : precision < scanned.integer + scanned.fraction → check_fields 0 0 line ≡ refused 2 count
+      finding_refused h =
+          finding_many r (λ z. some (scanned_length (drop place line) scanned_there ∙ z))
+          (omega (arith, scanned_hashes (drop place line) scanned_there))
+
+      -- a field is passed over, and listed where there is room
+      pub finding_turn : {next : List Field} → scanned.integer + scanned.fraction ≤ precision
+          → ((length fields < max_fields) × (next ≡ fields ++ (field_of place (take (length line - place) (drop place line)) ∷ [])))
+          ⊎ ((max_fields ≤ length fields) × (next ≡ fields))
+          → Finding line next (count + 1) (place + scanned.length)
+      finding_turn {next} h w =
+          finding_field r (scanned_length (drop place line) scanned_there) some
+          (omega (arith, scanned_hashes (drop place line) scanned_there))
+          (rw (take_rest line place) at w)
 
 -- The sign of a field is that of its first byte.
-field_sign : (line : List ℕ) (place : ℕ) → 0 < field_length (drop place line)
-    → sign_of (get_or line place 0) ≡ leading_sign (take (field_length (drop place line)) (drop place line))
-field_sign line place some =
-    let bytes : List ℕ = drop place line in
+field_sign : (bytes : List ℕ) → 0 < field_length bytes → sign_of (get_or bytes 0 0) ≡ leading_sign (take (field_length bytes) bytes)
+field_sign bytes some =
     let size : ℕ = field_length bytes in
     let long : length (take size bytes) ≡ size = length-take-le size bytes (longest_field bytes).inside in
-    let first : get_or (take size bytes) 0 0 ≡ get_or line place 0 = get_or-take size bytes 0 0 some ∙ get_or-drop place line 0 0 ∙ ap (λ (k : ℕ). get_or line k 0) (omega arith) in
-    sym (ap sign_of first) ∙ first_sign (take size bytes) (omega arith)
+    sym (ap sign_of (get_or-take size bytes 0 0 some)) ∙ first_sign (take size bytes) (omega arith)
 
--- What is scanned at a place is the field there.
-pub field_made : (line : List ℕ) (place : ℕ) {scanned : Scanned} {sign : Sign} → scanned ≡ scanned_field (drop place line)
+-- What is scanned of bytes is the field that they begin with.
+pub field_made : (bytes : List ℕ) (place : ℕ) {scanned : Scanned} {sign : Sign} → scanned ≡ scanned_field bytes
     → 0 < scanned.length
-    → sign ≡ sign_of (get_or line place 0)
+    → sign ≡ sign_of (get_or bytes 0 0)
     → record {
       start = place;
       length = scanned.length;
@@ -318,40 +349,32 @@ pub field_made : (line : List ℕ) (place : ℕ) {scanned : Scanned} {sign : Sig
             exponential = scanned.exponential;
           };
     }
-    ≡ field_of place (drop place line)
+    ≡ field_of place bytes
 unfolding field_of scanned_field scanned_image
-field_made line place {scanned} {sign} e some f =
-    let bytes : List ℕ = drop place line in
-    let n : scanned.length ≡ field_length bytes = ap (λ (s : Scanned). s.length) e in
+field_made bytes place {scanned} {sign} e some f =
+    let n : scanned.length ≡ field_length bytes = scanned_length bytes e in
     λ i. record {
       start = place;
       length = n i;
       image =
           record {
-            sign = (f ∙ field_sign line place (omega arith)) i;
+            sign = (f ∙ field_sign bytes (omega arith)) i;
             integer = ap (λ (s : Scanned). s.integer) e i;
             fraction = ap (λ (s : Scanned). s.fraction) e i;
             exponential = ap (λ (s : Scanned). s.exponential) e i;
           };
     }
 
--- a scanned field's length and # signs
-pub scanned_length : (bytes : List ℕ) {scanned : Scanned} → scanned ≡ scanned_field bytes → scanned.length ≡ field_length bytes
-unfolding scanned_field
-scanned_length bytes e = ap (λ (s : Scanned). s.length) e
-
-pub scanned_hashes : (bytes : List ℕ) {scanned : Scanned} → scanned ≡ scanned_field bytes
-    → scanned.integer + scanned.fraction ≡ hashes (scanned_image (take (field_length bytes) bytes))
-unfolding scanned_field
-scanned_hashes bytes e = ap (λ (s : Scanned). s.integer + s.fraction) e
-
--- they are no more than the bytes
-pub scanned_few : (bytes : List ℕ) {scanned : Scanned} → scanned ≡ scanned_field bytes → scanned.integer + scanned.fraction ≤ length bytes
-scanned_few bytes e =
-    let f : List ℕ = take (field_length bytes) bytes in
-    omega (arith, scanned_hashes bytes e, hashes_few f, length-take-le (field_length bytes) bytes (longest_field bytes).inside, (longest_field bytes).inside)
-
 -- The next field behind a place of the line.
+
+-- what stands for a field behind a list's end
+abbrev pub no_field : Field
+no_field =
+    record {
+      start = 0;
+      length = 0;
+      image = record { sign = Unsigned; integer = 0; fraction = 0; exponential = false };
+    }
 
 -- behind so many fields, at a place of the line
 pub record AtField (line : List ℕ) (next place : ℕ) : Type 0 where
@@ -364,6 +387,8 @@ pub record NextField (line : List ℕ) (next place : ℕ) (f : Field) : Type 0 w
   pub first : f.start ≡ place + length (literals (drop place line))
   pub there : f.start < length line
   pub found : f.length ≡ field_length (drop f.start line)
+  pub some : f.length ≡ 0 → ⊥
+  pub reached : Reached line f.start
   pub image_read : f.image ≡ scanned_image (take f.length (drop f.start line))
   pub on : AtField line (next + 1) (f.start + f.length)
 
@@ -372,11 +397,7 @@ pub at_first : (line : List ℕ) → AtField line 0 0
 at_first line = record { inside = omega arith; rest = refl; reached = at_start }
 
 module _ {line : List ℕ} {next place : ℕ} (r : AtField line next place) where
-  -- the place behind the literal bytes
-  behind_literals : ℕ
-  behind_literals = place + length (literals (drop place line))
-
-  -- it is inside the line
+  -- the place behind the literal bytes is inside the line
   literals_within : place + length (literals (drop place line)) ≤ length line
   literals_within = omega (arith, literals_inside (drop place line), length-drop place line, r.inside)
 
@@ -429,6 +450,8 @@ module _ {line : List ℕ} {next place : ℕ} (r : AtField line next place) wher
         first = refl;
         there = more;
         found = refl;
+        some = some_there more;
+        reached = reached_next r.reached;
         image_read = refl;
         on =
             record {
@@ -438,21 +461,35 @@ module _ {line : List ℕ} {next place : ℕ} (r : AtField line next place) wher
             };
       })
 
--- a line whose fields are counted has one where the count is not 0
-pub counted_some : (line : List ℕ) → 0 < length (line_fields line) → length (literals line) < length line
-counted_some line h =
-    let f = next_field (at_first line) h in
-    omega (arith, f.first, f.there)
+-- The list of a line's first fields.
 
--- and none where it is 0
-pub counted_none : (line : List ℕ) → length (line_fields line) ≡ 0 → length line ≤ length (literals line)
-counted_none line h = omega (arith, no_next (at_first line) (omega arith))
+module _ {line : List ℕ} {fields : List Field} (listed : Listed line fields) where
+  -- it has those that there are, or is full
+  listed_length : length fields ≡ min max_fields (length (line_fields line))
+  listed_length = ap length listed.first ∙ length-take max_fields (line_fields line)
 
--- the code's next field
-pub listed_next : {line : List ℕ} {found : Fields} {next place : ℕ} (d : Field) → Listed line found → AtField line next place → next < found.count
-    → next < max_fields
-    → NextField line next place (get_or found.fields next d)
-listed_next {line} {found} {next} {place} d l r h few =
-    let same : get_or (line_fields line) next no_field ≡ get_or found.fields next d =
-    sym (ap (λ (x : List Field). get_or x next d) l.held ∙ filled_at no_field max_fields (line_fields line) next d few) in
-    subst (NextField line next place) same (next_field r (omega (arith, l.counted)))
+  -- where it has none, the line has none
+  pub listed_none : length fields ≡ 0 → length line ≤ length (literals line)
+  listed_none h = omega (arith, listed_length, no_next (at_first line) (omega (arith, listed_length)))
+
+  -- where it has one, the line has one
+  pub listed_one : 0 < length fields → length (literals line) < length line
+  listed_one h =
+      let f = next_field (at_first line) (omega (arith, listed_length)) in
+      omega (arith, f.first, f.there)
+
+  -- and the other way round
+  pub listed_some : length (literals line) < length line → 0 < length fields
+  listed_some h = ⊎_elim (λ z. absurd (omega (arith, listed_none (omega arith)))) (λ z. z) (le_or_lt (length fields) 0)
+
+  -- an element of it is the line's next field
+  pub listed_next : {next place : ℕ} → AtField line next place → next < length fields → NextField line next place (get_or fields next no_field)
+  listed_next {next} {place} r h =
+      let same : get_or (line_fields line) next no_field ≡ get_or fields next no_field =
+      sym (ap (λ (x : List Field). get_or x next no_field) listed.first ∙ get_or-take max_fields (line_fields line) next no_field (omega (arith, listed_length))) in
+      subst (NextField line next place) same (next_field r (omega (arith, listed_length)))
+
+  -- behind its last one, the rest of the line is literal, unless it is full
+  pub listed_over : {next place : ℕ} → AtField line next place → length fields ≤ next → next < max_fields
+      → length line ≡ place + length (literals (drop place line))
+  listed_over r h l = no_next r (omega (arith, listed_length))

@@ -26,6 +26,7 @@ pub mod MeasureLaws
 pub mod DemandTheorem
 pub mod WholeReadTheorem
 pub mod FileLaws
+pub mod BodiesLaws
 pub mod RefusalLaws
 pub mod FileTheorem
 pub mod ReplaceTheorem

@@ -1,84 +1,26 @@
--- Laws of the lines of a file's records: what the code has of a file and of its bodies, and what the loops that check the bodies and
+-- Laws of the lines of a file's records: what a file whose bodies can all be read tells, and what the loops that check the bodies and
 -- write their lines hold. Assumes nothing.
-use Prim.Native.Nat.{ℕ, zero, suc, ◌+◌, ◌-◌, ◌*◌, ◌<◌, ◌≤◌}
-use mathlib.Core.Path.{◌≡◌, refl, ap, ap₂, sym, subst, ◌∙◌}
-use mathlib.Core.List.{List, [], ◌∷◌, ◌++◌, append_assoc, append-nil}
-use native.Mathlib.Omega.{arith}
-use native.Mathlib.Nat.{div-add-mod'}
-use lib.ListN.{length, take, drop, length-append}
-use lib.Seq.{drop-drop}
+use Rattle.std.proofs.Common.{◌≡◌, ℕ, zero, suc, ◌+◌, ◌-◌, ◌*◌, ◌/◌, ◌<◌, ◌≤◌, List, [], ◌∷◌, ◌++◌, length, take, drop, refl, ap, ap₂, sym, subst, ◌∙◌, length-append, arith}
 use Rattle.decimal.specs.declared.image.Image.{Image}
 use Rattle.decimal.specs.declared.number.Number.{Number}
-use Rattle.decimal.specs.declared.refusal.Refusal.{Refusal}
-use Rattle.decimal.specs.Answer.{Answer, done, refused, ◌then◌, given}
+use Rattle.decimal.specs.Answer.{Answer, done, refused, ◌then◌, given, mapped}
+use Rattle.decimal.proofs.AnswerLaws.{then_done, done_same, one_answer, never, mapped_back}
 use Rattle.codec.specs.declared.contents.Contents.{Contents}
-use Rattle.decimal.specs.declared.refusal.CheckAnswer.TheVariants as checks
-use Rattle.codec.specs.declared.unpacking.Unpacked.{Unpacked}
-use Rattle.codec.specs.Lists.{max_columns, no_image, image_list}
 use Rattle.codec.specs.Columns.{body_size, AllChecked}
 use Rattle.codec.specs.Contents.{Table, contents_of}
-use Rattle.codec.specs.Answers.{written}
-use Rattle.codec.specs.Unpacking.{unpack_body, unpack_under, unpacked_of}
+use Rattle.codec.specs.Unpacking.{unpack_body, unpack_under}
 use Rattle.codec.specs.Alpha.{alpha_texts, line_length}
-use Rattle.decimal.proofs.AnswerLaws.{then_done}
-use Rattle.codec.proofs.ContentsLaws.{told_read, told_refused, Sound, contents_sound}
-use Rattle.codec.proofs.ListLaws.{filled_front}
-use Rattle.codec.proofs.UnderLaws.{checked_checks, told_images, unpack_under_checked}
-use Rattle.codec.proofs.UnpackLaws.{unpack_values}
+use Rattle.codec.proofs.ContentsLaws.{Sound, contents_sound}
+use Rattle.codec.proofs.UnderLaws.{checked_checks, unpack_under_checked}
 use Rattle.codec.proofs.LineLaws.{texts_count, texts_length, unpacked_count, unpacked_texts}
 use Rattle.codec.proofs.FrontLaws.{contents_size}
 use Rattle.records.specs.Files.{read_file, record_count, bodies, bodies_in}
-use Rattle.records.specs.Listing.{record_line, record_lines, file_lines, checked_file, lines_of, Listed, HasTexts}
-use Rattle.records.proofs.WritingLaws.{written_empty, kept_length, next_bytes}
-use Rattle.records.proofs.FileLaws.{FileRead, file_told}
+use Rattle.records.specs.Listing.{columns_word, records_word, count_line, record_line, record_lines, file_lines, listing_of, listing, checked_file, lines_of, Listed, HasTexts}
+use Rattle.records.proofs.FileLaws.{file_told}
+use Rattle.records.proofs.WritingLaws.{part_behind, behind_all, lent_written, Coming, coming_starts, coming_room, coming_bytes, coming_ends}
+use borrow.Rule.Slice.PartMut.{put_mid}
+use Rattle.records.proofs.BodiesLaws.{file_reaches, Ahead, bodies_ahead, bodies_next, bodies_over}
 use Rattle.records.proofs.RecordLaws.{line_length_lem}
-
--- What the code has of a contents, and of a body that it reads under it.
-
--- the contents that was read
-pub record TableHeld (table : Table) (r : Contents) : Type 0 where
-  pub sound : Sound table.images
-  pub images : image_list r.images ≡ table.images
-  pub front : take r.images.count r.images.values ≡ table.images
-  pub count : r.images.count ≡ length table.images
-  pub size : r.size ≡ table.size
-  pub body : r.body ≡ body_size table.images
-
-pub table_held : (table : Table) → Sound table.images → {r : Contents} → r ≡ contents_of (done table) → TableHeld table r
-unfolding contents_of
-table_held table s h =
-    let ims : List Image = table.images in
-    record {
-      sound = s;
-      images = told_images table s.high h;
-      front = ap (λ (x : Contents). take x.images.count x.images.values) h ∙ filled_front no_image max_columns ims s.high;
-      count = ap (λ (x : Contents). x.images.count) h;
-      size = ap (λ (x : Contents). x.size) h;
-      body = ap (λ (x : Contents). x.body) h;
-    }
-
--- a body is read under it as under its images
-body_unpacked :
-    {table : Table} {r : Contents}
-    → TableHeld table r
-    → (body : List ℕ)
-    → unpack_under (image_list r.images) body ≡ unpack_body table.images body
-body_unpacked {table} t body =
-    let s = t.sound in
-    let checks = checked_checks s.all s.low s.high in
-    ap (λ (l : List Image). unpack_under l body) t.images ∙ unpack_under_checked table.images body checks
-
--- and so is the body at a place of a file, as the code reads it
-pub part_unpacked :
-    {table : Table} {r : Contents}
-    → TableHeld table r
-    → (file : List ℕ) (place : ℕ) {u : Unpacked}
-    → u ≡ unpacked_of (unpack_under (image_list r.images) (take r.body (drop place file)))
-    → u ≡ unpacked_of (unpack_body table.images (take (body_size table.images) (drop place file)))
-part_unpacked {table} {r} t file place h =
-    h
-    ∙ ap unpacked_of (body_unpacked t (take r.body (drop place file)))
-    ∙ ap (λ (k : ℕ). unpacked_of (unpack_body table.images (take k (drop place file)))) t.body
 
 -- The lines of records, one body after the other.
 
@@ -114,7 +56,6 @@ lines_view ims b bs {lines} h =
     let one = then_done (unpack_body ims b) (λ (ns : List Number). alpha_texts ims ns then shown) h in
     let two = then_done (alpha_texts ims one.value) shown one.second in
     let three = then_done (record_lines ims bs) (λ (others : List ℕ). done (record_line two.value ++ others)) two.second in
-    let last : ◌≡◌ {A = Answer (List ℕ)} (done (record_line two.value ++ three.value)) (done lines) = three.second in
     record {
       numbers = one.value;
       texts = two.value;
@@ -122,7 +63,7 @@ lines_view ims b bs {lines} h =
       unpacks = one.first;
       shows = two.first;
       rest = three.first;
-      joined = cc;
+      joined = done_same three.second;
     }
   where
     shown : List (List ℕ) → Answer (List ℕ)
@@ -135,6 +76,14 @@ line_some [] s = absurd (omega (arith, s.low))
 line_some (im ∷ ims) s = omega arith
 
 -- every record's line has the same length
+step_length :
+    (ims : List Image)
+    → Sound ims
+    → {b : List ℕ} {bs : List (List ℕ)} {lines : List ℕ} (v : LinesStep ims b bs lines)
+    → length (record_line v.texts) ≡ line_length ims
+step_length ims s {b} v =
+    omega (arith, line_length_lem v.texts, texts_length s.all v.numbers s.low (unpacked_count ims b v.unpacks) v.shows)
+
 lines_length :
     (ims : List Image)
     → Sound ims
@@ -145,13 +94,11 @@ unfolding record_lines
 lines_length ims s [] {lines} h = let z : [] ≡ lines = cc in omega (arith, ap length z)
 lines_length ims s (b ∷ bs) {lines} h =
     let v = lines_view ims b bs h in
-    let long = texts_length s.all v.numbers s.low (unpacked_count ims b v.unpacks) v.shows in
     omega (
       arith,
       ap length v.joined,
       length-append (record_line v.texts) v.others,
-      line_length_lem v.texts,
-      long,
+      step_length ims s v,
       lines_length ims s bs v.rest,
     )
 
@@ -166,26 +113,31 @@ pub records_count : (table : Table) (file : List ℕ) → length (bodies_in tabl
 unfolding bodies_in
 records_count table file = bodies_count (record_count table file) (body_size table.images) (drop table.size file)
 
--- A file whose bodies can all be read.
+-- A file whose bodies can all be read, by the contents that the code has of it.
 
--- the bodies fill a file behind its contents
-pub file_reaches :
-    {file : List ℕ} {table : Table} → FileRead file table → table.size + record_count table file * body_size table.images ≡ length file
-unfolding record_count
-file_reaches {file} {table} f =
-    let split = div-add-mod' (length file - table.size) (body_size table.images) in
-    let inside = f.within in
-    let whole = f.whole in
-    omega arith
+-- the count of its records
+abbrev pub records_of : List ℕ → Contents → ℕ
+records_of file r = (length file - r.size) / r.body
+
+-- the first line of its listing, the last, and the whole
+abbrev pub first_line : Contents → List ℕ
+first_line r = count_line columns_word (length r.images.items)
+
+abbrev pub last_line : List ℕ → Contents → List ℕ
+last_line file r = count_line records_word (records_of file r)
+
+abbrev pub listing_text : List ℕ → Contents → List ℕ
+listing_text file r = first_line r ++ (lines_of file ++ last_line file r)
 
 -- what such a file tells
-pub record FileListed (file : List ℕ) (table : Table) : Type 0 where
-  pub reads : read_file file ≡ done table
-  pub lines : file_lines table file ≡ done (lines_of file)
-  pub sound : Sound table.images
-  pub size : table.size ≡ suc (line_length table.images)
-  pub some : 0 < body_size table.images
-  pub reaches : table.size + record_count table file * body_size table.images ≡ length file
+pub record FileListed (file : List ℕ) (r : Contents) : Type 0 where
+  pub sound : Sound r.images.items
+  pub some : 0 < r.body
+  pub within : r.size ≤ length file
+  pub size : r.size ≡ suc (line_length r.images.items)
+  pub reaches : length (drop r.size file) ≡ records_of file r * r.body
+  pub lines : record_lines r.images.items (bodies (records_of file r) r.body (drop r.size file)) ≡ done (lines_of file)
+  pub lists : listing file ≡ done (listing_text file r)
 
 -- the lines of a file that is read
 lines_of_lem :
@@ -196,135 +148,67 @@ lines_of_lem :
 unfolding lines_of given ◌then◌
 lines_of_lem file h e = rw (h, e)
 
-pub file_listed : (file : List ℕ) {table : Table} → checked_file file ≡ done table → FileListed file table
-unfolding checked_file
+-- and its listing
+lists_lem :
+    (file : List ℕ) {table : Table} {lines : List ℕ}
+    → read_file file ≡ done table
+    → file_lines table file ≡ done lines
+    → listing file ≡ done (listing_of table file lines)
+unfolding listing ◌then◌
+lists_lem file h e = rw (h, e)
+
+pub file_listed : (file : List ℕ) {table : Table} → checked_file file ≡ done table → FileListed file (contents_of table)
+unfolding checked_file listing_of record_count bodies_in
 file_listed file {table} h =
     let one = then_done (read_file file) (λ (t : Table). file_lines t file then λ (lines : List ℕ). done t) h in
     let two = then_done (file_lines one.value file) (λ (lines : List ℕ). done one.value) one.second in
-    let last : ◌≡◌ {A = Answer Table} (done one.value) (done table) = two.second in
-    let same : one.value ≡ table = cc in
+    let same : one.value ≡ table = done_same two.second in
     let reads : read_file file ≡ done table = one.first ∙ ap {B = Answer Table} done same in
-    let shows : file_lines table file ≡ done two.value = ap (λ (t : Table). file_lines t file) (sym same) ∙ two.first in
+    let first : file_lines table file ≡ done two.value = ap (λ (t : Table). file_lines t file) (sym same) ∙ two.first in
+    let lines : file_lines table file ≡ done (lines_of file) = first ∙ ap {B = Answer (List ℕ)} done (sym (lines_of_lem file reads first)) in
     let told = file_told file reads in
     record {
-      reads = reads;
-      lines = shows ∙ ap {B = Answer (List ℕ)} done (sym (lines_of_lem file reads shows));
       sound = contents_sound file told.contents;
-      size = contents_size file told.contents;
       some = told.some;
+      within = told.within;
+      size = contents_size file told.contents;
       reaches = file_reaches told;
+      lines = lines;
+      lists = lists_lem file reads lines;
     }
+
+pub held_listed : {file : List ℕ} {r : Contents} → Listed file r → FileListed file r
+held_listed {file} h = subst (λ (r : Contents). FileListed file r) (sym h.told) (file_listed file h.checked)
+
+-- the code's contents of it
+pub listed_made : (file : List ℕ) {r : Contents} → done r ≡ mapped contents_of (checked_file file) → Listed file r
+listed_made file h = let t = mapped_back contents_of (checked_file file) h in record { table = t.0; told = t.2; checked = t.1 }
 
 -- its lines are as long as the contents without its first byte, each
-pub listed_length :
-    {file : List ℕ} {table : Table} → FileListed file table → length (lines_of file) ≡ record_count table file * (table.size - 1)
-listed_length {file} {table} l =
-    let line : line_length table.images ≡ table.size - 1 = omega (arith, l.size) in
-    lines_length table.images l.sound (bodies_in table file) l.lines ∙ ap₂ (λ (x y : ℕ). x * y) (records_count table file) line
+pub listed_length : {file : List ℕ} {r : Contents} → FileListed file r → length (lines_of file) ≡ records_of file r * (r.size - 1)
+listed_length {file} {r} l =
+    let line : line_length r.images.items ≡ r.size - 1 = omega (arith, l.size) in
+    lines_length r.images.items l.sound (bodies (records_of file r) r.body (drop r.size file)) l.lines
+    ∙ ap₂ (λ (x y : ℕ). x * y) (bodies_count (records_of file r) r.body (drop r.size file)) line
 
--- What the code has of a file.
+-- A body, as the code reads it.
+module _ {own : List Image} (s : Sound own) {ims : List Image} (e : ims ≡ own) (body : List ℕ) where
+  body_unpacked : unpack_under ims body ≡ unpack_body own body
+  body_unpacked =
+      ap (λ (l : List Image). unpack_under l body) e ∙ unpack_under_checked own body (checked_checks s.all s.low s.high)
 
--- a file that is read
-pub record FileHeld (file : List ℕ) (r : Contents) : Type 0 where
-  pub table : Table
-  pub reads : read_file file ≡ done table
-  pub some : 0 < body_size table.images
-  pub held : TableHeld table r
+-- Checking the bodies: whether those that are left can be read says whether all can.
+pub record Checking (file : List ℕ) (r : Contents) (rest : List ℕ) : Type 0 where
+  pub sound : Sound r.images.items
+  pub some : 0 < r.body
+  pub left : ℕ
+  pub reaches : length rest ≡ left * r.body
+  pub says : mapped contents_of (checked_file file) ≡ (record_lines r.images.items (bodies left r.body rest) then λ lines. done r)
 
-pub file_held : (file : List ℕ) {r : Contents} → r ≡ contents_of (read_file file) → r.answer ≡ checks.Fine → FileHeld file r
-file_held file {r} h e =
-    let t = told_read (read_file file) r h e in
-    let f = file_told file t.reads in
-    record {
-      table = t.table;
-      reads = t.reads;
-      some = f.some;
-      held = table_held t.table (contents_sound file f.contents) (h ∙ ap contents_of t.reads);
-    }
-
--- one that is refused is so before its bodies are read
-checked_refused : (file : List ℕ) {x y : ℕ} → read_file file ≡ refused x y → checked_file file ≡ refused x y
+-- a file that is refused is so before its bodies are read
+pub checked_refused : (file : List ℕ) {x y : ℕ} → read_file file ≡ refused x y → checked_file file ≡ refused x y
 unfolding checked_file ◌then◌
 checked_refused file h = rw h
-
-pub file_refused :
-    (file : List ℕ) {r : Contents} {refusal : Refusal}
-    → r ≡ contents_of (read_file file)
-    → r.answer ≡ checks.Refused refusal
-    → r ≡ contents_of (checked_file file)
-file_refused file {r} {refusal} h e =
-    let q = told_refused (read_file file) r refusal h e in
-    h ∙ ap contents_of (q ∙ sym (checked_refused file q))
-
--- a file whose bodies can all be read
-pub record ListedHeld (file : List ℕ) (r : Contents) : Type 0 where
-  pub table : Table
-  pub lists : FileListed file table
-  pub held : TableHeld table r
-
-pub listed_held : {file : List ℕ} {r : Contents} → Listed file r → ListedHeld file r
-listed_held {file} h =
-    let l = file_listed file h.checked in
-    record { table = h.table; lists = l; held = table_held h.table l.sound h.told }
-
-pub listed_made : (file : List ℕ) {r : Contents} → r ≡ contents_of (checked_file file) → r.answer ≡ checks.Fine → Listed file r
-listed_made file {r} h e =
-    let t = told_read (checked_file file) r h e in
-    record { table = t.table; told = h ∙ ap contents_of t.reads; checked = t.reads }
-
--- The bodies from a place of a file on.
-
-module _ (file : List ℕ) (size place : ℕ) where
-  -- the place is before the file's end: one body and the rest are left
-  pub record Ahead (left : ℕ) : Type 0 where
-    pub others : ℕ
-    pub one : left ≡ suc others
-    pub inside : place + size ≤ length file
-    pub reaches : place + size + others * size ≡ length file
-
-  pub bodies_ahead : (left : ℕ) → place + left * size ≡ length file → place < length file → Ahead left
-  bodies_ahead zero h l = absurd (omega arith)
-  bodies_ahead (suc n) h l = record { others = n; one = refl; inside = omega arith; reaches = omega arith }
-
-  -- the place is at the file's end: none is left
-  pub bodies_over : (left : ℕ) → 0 < size → place + left * size ≡ length file → length file ≤ place → left ≡ 0
-  bodies_over zero some h l = refl
-  bodies_over (suc n) some h l = absurd (omega arith)
-
-  -- the body at the place
-  abbrev pub body_at : List ℕ
-  body_at = take size (drop place file)
-
-  -- and so many behind it
-  abbrev pub bodies_behind : ℕ → List (List ℕ)
-  bodies_behind n = bodies n size (drop (place + size) file)
-
-  -- are those that are left
-  pub bodies_next : (left : ℕ) (a : Ahead left) → bodies left size (drop place file) ≡ body_at ∷ bodies_behind a.others
-  unfolding bodies
-  bodies_next left a =
-      ap (λ (k : ℕ). bodies k size (drop place file)) a.one
-      ∙ ap (λ (l : List ℕ). body_at ∷ bodies a.others size l) (drop-drop size place file)
-
--- the bodies of a file from a place on, so many of them
-abbrev pub bodies_left : List ℕ → Table → ℕ → ℕ → List (List ℕ)
-bodies_left file table place left = bodies left (body_size table.images) (drop place file)
-
--- all of them
-pub bodies_all : (file : List ℕ) (table : Table) → bodies_in table file ≡ bodies_left file table table.size (record_count table file)
-unfolding bodies_in
-bodies_all file table = refl
-
--- none of them
-pub bodies_none : (file : List ℕ) (table : Table) (place : ℕ) → bodies_left file table place 0 ≡ []
-unfolding bodies
-bodies_none file table place = refl
-
--- Checking the bodies: whether those from the place on can be read says whether all can.
-pub record Checking (file : List ℕ) (table : Table) (place : ℕ) : Type 0 where
-  pub left : ℕ
-  pub reaches : place + left * body_size table.images ≡ length file
-  pub rest : checked_file file ≡ (record_lines table.images (bodies_left file table place left) then λ lines. done table)
 
 -- what follows a step that only adds to what is given
 then_added : {A B C : Type 0} (a : Answer A) (f : A → B) (c : C) → ((a then λ t. done (f t)) then λ l. done c) ≡ (a then λ t. done c)
@@ -332,235 +216,189 @@ unfolding ◌then◌
 then_added (done t) f c = refl
 then_added (refused x y) f c = refl
 
+-- and what is made of it
+then_mapped : {A B C : Type 0} (a : Answer A) (f : B → C) (b : B) → mapped f (a then λ t. done b) ≡ (a then λ t. done (f b))
+unfolding ◌then◌ mapped
+then_mapped (done t) f b = refl
+then_mapped (refused x y) f b = refl
+
 -- at the first body
-pub checking_starts :
-    (file : List ℕ) {table : Table} → read_file file ≡ done table → {place : ℕ} → place ≡ table.size → Checking file table place
+starts_at : (file : List ℕ) {table : Table} → read_file file ≡ done table → Checking file (contents_of table) (drop table.size file)
 unfolding checked_file bodies_in ◌then◌
-checking_starts file {table} h e =
-    subst (λ (k : ℕ). Checking file table k) (sym e)
-    (record { left = record_count table file; reaches = file_reaches (file_told file h); rest = rw h })
+starts_at file {table} reads =
+    let f = file_told file reads in
+    record {
+      sound = contents_sound file f.contents;
+      some = f.some;
+      left = record_count table file;
+      reaches = file_reaches f;
+      says = rw reads (then_mapped (file_lines table file) contents_of table);
+    }
 
-module _ {file : List ℕ} {table : Table} {place : ℕ} (c : Checking file table place) where
-  -- the bytes of a body
-  abbrev size : ℕ
-  size = body_size table.images
+pub checking_starts : (file : List ℕ) {r : Contents} → done r ≡ mapped contents_of (read_file file) → Checking file r (part_behind file r.size)
+checking_starts file {r} h =
+    let t = mapped_back contents_of (read_file file) h in
+    subst (λ (rest : List ℕ). Checking file r rest) (sym (behind_all file r.size))
+    (subst (λ (r : Contents). Checking file r (drop r.size file)) (sym t.2) (starts_at file t.1))
 
+module _ {file : List ℕ} {r : Contents} {rest : List ℕ} (c : Checking file r rest) where
   -- at the end
-  pub checking_ends : 0 < size → length file ≤ place → checked_file file ≡ done table
+  pub checking_ends : length rest ≡ 0 → done r ≡ mapped contents_of (checked_file file)
   unfolding record_lines bodies ◌then◌
-  checking_ends some l =
-      let over = bodies_over file size place c.left some c.reaches l in
-      c.rest ∙ ap (λ (k : ℕ). record_lines table.images (bodies_left file table place k) then λ lines. done table) over
+  checking_ends l =
+      let over = bodies_over r.body rest c.left c.some c.reaches l in
+      sym (c.says ∙ ap (λ (k : ℕ). record_lines r.images.items (bodies k r.body rest) then λ lines. done r) over)
 
-  module _ (l : place < length file) where
+  module _ (l : 0 < length rest) where
     -- one body is left at least
-    ahead : Ahead file size place c.left
-    ahead = bodies_ahead file size place c.left c.reaches l
+    ahead : Ahead r.body rest c.left
+    ahead = bodies_ahead r.body rest c.left c.reaches l
 
-    -- it ends within the file
-    pub checking_inside : place + size ≤ length file
+    -- the code takes it off the front
+    pub checking_inside : r.body ≤ length rest
     checking_inside = ahead.inside
 
-    -- the body, and those behind it
-    abbrev body : List ℕ
-    body = body_at file size place
-
+    -- the bodies behind it
     abbrev behind : List (List ℕ)
-    behind = bodies_behind file size place ahead.others
+    behind = bodies ahead.others r.body (drop r.body rest)
 
     -- what they say
-    checking_rest : checked_file file ≡ (record_lines table.images (body ∷ behind) then λ lines. done table)
-    checking_rest =
-        c.rest
-        ∙ ap (λ (bs : List (List ℕ)). record_lines table.images bs then λ lines. done table) (bodies_next file size place c.left ahead)
+    checking_rest : mapped contents_of (checked_file file) ≡ (record_lines r.images.items (take r.body rest ∷ behind) then λ lines. done r)
+    checking_rest = c.says ∙ ap (λ (bs : List (List ℕ)). record_lines r.images.items bs then λ lines. done r) (bodies_next r.body rest ahead)
 
-    -- the body is refused
-    pub checking_stops : {x y : ℕ} → unpack_body table.images body ≡ refused x y → checked_file file ≡ refused x y
-    unfolding ◌then◌
-    checking_stops h =
-        checking_rest ∙ ap (λ (a : Answer (List ℕ)). a then λ lines. done table) (lines_refused table.images body behind h)
+    module _ {ims : List Image} (e : ims ≡ r.images.items) where
+      -- the body is refused
+      pub checking_stops : {x y : ℕ} → refused x y ≡ unpack_under ims (take r.body rest) → mapped contents_of (checked_file file) ≡ refused x y
+      unfolding ◌then◌
+      checking_stops h =
+          checking_rest
+          ∙ ap (λ (a : Answer (List ℕ)). a then λ lines. done r)
+          (lines_refused r.images.items (take r.body rest) behind (sym (h ∙ body_unpacked c.sound e (take r.body rest))))
 
-    -- it is read
-    pub checking_turns :
-        {ns : List Number}
-        → AllChecked table.images
-        → unpack_body table.images body ≡ done ns
-        → {then-place : ℕ}
-        → then-place ≡ place + size
-        → Checking file table then-place
-    checking_turns all h e =
-        let texts = unpacked_texts all body h in
-        subst (λ (k : ℕ). Checking file table k) (sym e)
-        (record {
-          left = ahead.others;
-          reaches = ahead.reaches;
-          rest =
-              checking_rest
-              ∙ ap (λ (a : Answer (List ℕ)). a then λ lines. done table) (lines_next table.images body behind h texts.1)
-              ∙ then_added (record_lines table.images behind) (λ (lines : List ℕ). record_line texts.0 ++ lines) table;
-        })
+      -- it is read
+      pub checking_turns : {ns : List Number} → done ns ≡ unpack_under ims (take r.body rest) → Checking file r (drop r.body rest)
+      checking_turns {ns} h =
+          let read : unpack_body r.images.items (take r.body rest) ≡ done ns = sym (h ∙ body_unpacked c.sound e (take r.body rest)) in
+          let texts = unpacked_texts c.sound.all (take r.body rest) read in
+          record {
+            sound = c.sound;
+            some = c.some;
+            left = ahead.others;
+            reaches = ahead.behind;
+            says =
+                checking_rest
+                ∙ ap (λ (a : Answer (List ℕ)). a then λ lines. done r) (lines_next r.images.items (take r.body rest) behind read texts.1)
+                ∙ then_added (record_lines r.images.items behind) (λ (lines : List ℕ). record_line texts.0 ++ lines) r;
+          }
 
--- Writing the lines: those that are written, and those of the bodies from the place on, are all.
-pub record Lining (file : List ℕ) (table : Table) (buffer : List ℕ) (start : ℕ) (now : List ℕ) (out place : ℕ) : Type 0 where
+-- Writing the lines: those that are written, and those of the bodies that are left, are all.
+pub record Lining (file : List ℕ) (r : Contents) (now : List ℕ) (out : ℕ) (rest : List ℕ) : Type 0 where
   pub left : ℕ
-  pub reaches : place + left * body_size table.images ≡ length file
-  pub before : List ℕ
+  pub reaches : length rest ≡ left * r.body
   pub after : List ℕ
-  pub comes : record_lines table.images (bodies_left file table place left) ≡ done after
-  pub joined : before ++ after ≡ lines_of file
-  pub ends : out ≡ start + length before
-  pub holds : now ≡ written buffer start before
+  pub comes : record_lines r.images.items (bodies left r.body rest) ≡ done after
+  pub joined : Coming now out after (lines_of file)
 
 -- at the first body
-pub lining_starts :
-    {file : List ℕ} {table : Table}
-    → FileListed file table
-    → (buffer : List ℕ) (start : ℕ) {place : ℕ}
-    → place ≡ table.size
-    → Lining file table buffer start buffer start place
-unfolding bodies_in
-lining_starts {file} {table} l buffer start e =
-    subst (λ (k : ℕ). Lining file table buffer start buffer start k) (sym e)
-    (record {
-      left = record_count table file;
-      reaches = l.reaches;
-      before = [];
-      after = lines_of file;
-      comes = l.lines;
-      joined = refl;
-      ends = omega arith;
-      holds = written_empty buffer start;
-    })
+pub lining_starts : {file : List ℕ} {r : Contents} → FileListed file r → (now : List ℕ) → Lining file r now 0 (part_behind file r.size)
+lining_starts {file} {r} f now =
+    subst (λ (rest : List ℕ). Lining file r now 0 rest) (sym (behind_all file r.size))
+    (record { left = records_of file r; reaches = f.reaches; after = lines_of file; comes = f.lines; joined = coming_starts now (lines_of file) })
 
-module _
-    {file : List ℕ} {table : Table} {buffer : List ℕ} {start : ℕ} {now : List ℕ} {out place : ℕ}
-    (w : Lining file table buffer start now out place) where
+module _ {file : List ℕ} {r : Contents} (f : FileListed file r) {now : List ℕ} {out : ℕ} {rest : List ℕ} (w : Lining file r now out rest)
+    (long : length now ≡ length (lines_of file)) where
   -- at the end
-  pub lining_ends :
-      0 < body_size table.images
-      → length file ≤ place
-      → (out ≡ start + length (lines_of file)) × (now ≡ written buffer start (lines_of file))
+  pub lining_ends : length rest ≡ 0 → now ≡ lines_of file
   unfolding record_lines bodies
-  lining_ends some l =
-      let over = bodies_over file (body_size table.images) place w.left some w.reaches l in
-      let last : ◌≡◌ {A = Answer (List ℕ)} (done []) (done w.after) =
-      sym (ap (λ (k : ℕ). record_lines table.images (bodies_left file table place k)) over) ∙ w.comes in
-      let empty : [] ≡ w.after = cc in
-      let all : w.before ≡ lines_of file = sym (append-nil w.before) ∙ ap (λ (x : List ℕ). w.before ++ x) empty ∙ w.joined in (
-        w.ends ∙ ap (λ (x : List ℕ). start + length x) all,
-        w.holds ∙ ap (λ (x : List ℕ). written buffer start x) all,
-      )
+  lining_ends l =
+      let over = bodies_over r.body rest w.left f.some w.reaches l in
+      let none : [] ≡ w.after = done_same (sym (ap (λ (k : ℕ). record_lines r.images.items (bodies k r.body rest)) over) ∙ w.comes) in
+      coming_ends (subst (λ (s : List ℕ). Coming now out s (lines_of file)) (sym none) w.joined) long
 
-  module _ (l : place < length file) where
+  module _ (l : 0 < length rest) where
     -- one body is left at least
-    pub lining_ahead : Ahead file (body_size table.images) place w.left
-    lining_ahead = bodies_ahead file (body_size table.images) place w.left w.reaches l
+    lining_ahead : Ahead r.body rest w.left
+    lining_ahead = bodies_ahead r.body rest w.left w.reaches l
 
-    -- it ends within the file
-    pub lining_inside : place + body_size table.images ≤ length file
+    -- the code takes it off the front
+    pub lining_inside : r.body ≤ length rest
     lining_inside = lining_ahead.inside
 
     -- it is read, and its texts exist
-    pub lining_step :
-        LinesStep table.images (body_at file (body_size table.images) place)
-        (bodies_behind file (body_size table.images) place lining_ahead.others) w.after
+    lining_step : LinesStep r.images.items (take r.body rest) (bodies lining_ahead.others r.body (drop r.body rest)) w.after
     lining_step =
-        let size : ℕ = body_size table.images in
-        lines_view table.images (body_at file size place) (bodies_behind file size place lining_ahead.others)
-        (ap (record_lines table.images) (sym (bodies_next file size place w.left lining_ahead)) ∙ w.comes)
+        lines_view r.images.items (take r.body rest) (bodies lining_ahead.others r.body (drop r.body rest))
+        (ap (record_lines r.images.items) (sym (bodies_next r.body rest lining_ahead)) ∙ w.comes)
 
     -- the line of it
-    pub next_line : List ℕ
+    next_line : List ℕ
     next_line = record_line lining_step.texts
 
-    -- all lines are those that are written, this one and the others
-    lining_joined : (w.before ++ next_line) ++ lining_step.others ≡ lines_of file
+    -- is as long as the contents without its first byte
+    next_length : length next_line ≡ r.size - 1
     unfolding next_line
-    lining_joined =
-        append_assoc w.before (record_line lining_step.texts) lining_step.others
-        ∙ ap (λ (x : List ℕ). w.before ++ x) lining_step.joined
-        ∙ w.joined
+    next_length = omega (arith, step_length r.images.items f.sound lining_step, f.size)
 
-    module _ (room : start + length (lines_of file) ≤ length buffer) where
-      -- there is room for it
-      lining_fits : start + length w.before + length next_line ≤ length buffer
-      lining_fits =
-          omega (
-            arith,
-            ap length lining_joined,
-            length-append (w.before ++ next_line) lining_step.others,
-            length-append w.before next_line,
-          )
+    -- it comes next, and then the others
+    lining_next : Coming now out (next_line ++ lining_step.others) (lines_of file)
+    unfolding next_line
+    lining_next = subst (λ (s : List ℕ). Coming now out s (lines_of file)) (sym lining_step.joined) w.joined
 
-      pub lining_room : out + length next_line ≤ length now
-      lining_room =
-          let kept = kept_length buffer start w.before w.holds w.ends (omega (arith, w.ends, lining_fits)) in
-          omega (arith, w.ends, lining_fits)
+    -- there is room for it
+    pub lining_room : out + (r.size - 1) ≤ length now
+    lining_room = omega (arith, coming_room next_line lining_step.others lining_next long, next_length)
+
+    -- The numbers that the code reads.
+    module _ {ims own : List Image} {read ns : List Number}
+        (e : ims ≡ r.images.items)
+        (h : done read ≡ unpack_under ims (take r.body rest))
+        (p : own ≡ r.images.items)
+        (q : ns ≡ read) where
+      -- are those of its texts
+      front_texts : alpha_texts own ns ≡ done lining_step.texts
+      front_texts =
+          let same : read ≡ lining_step.numbers = one_answer (sym (h ∙ body_unpacked f.sound e (take r.body rest))) lining_step.unpacks in
+          ap₂ (λ (x : List Image) (y : List Number). alpha_texts x y) p (q ∙ same) ∙ lining_step.shows
+
+      -- so they have texts
+      pub front_has : HasTexts own ns
+      front_has =
+          record {
+            checked = subst (λ (x : List Image). AllChecked x) (sym p) f.sound.all;
+            texts = lining_step.texts;
+            exist = front_texts;
+            counted =
+                texts_count f.sound.all lining_step.numbers (unpacked_count r.images.items (take r.body rest) lining_step.unpacks) lining_step.shows
+                ∙ sym (ap length p);
+          }
+
+      -- and the line is theirs
+      front_line : record_line (given (alpha_texts own ns)) ≡ next_line
+      unfolding given next_line
+      front_line = ap (λ (a : Answer (List (List ℕ))). record_line (given a)) front_texts
+
+      -- as long as the place that the code lends for it
+      pub front_length : length (record_line (given (alpha_texts own ns))) ≡ r.size - 1
+      front_length = ap length front_line ∙ next_length
 
       -- it is written
       pub lining_turns :
-          {line : List ℕ} {then-out then-place : ℕ} {then-now : List ℕ}
-          → line ≡ next_line
-          → then-out ≡ out + length line
-          → then-now ≡ written now out line
-          → then-place ≡ place + body_size table.images
-          → Lining file table buffer start then-now then-out then-place
-      lining_turns {line} {then-out} {then-place} {then-now} same e h p =
-          subst (λ (k : ℕ). Lining file table buffer start then-now then-out k) (sym p)
-          (record {
+          {line : List ℕ} {n m : ℕ}
+          → line ≡ record_line (given (alpha_texts own ns))
+          → n ≡ r.size - 1
+          → m ≡ r.size - 1
+          → Lining file r (put_mid out n now line) (out + m) (drop r.body rest)
+      lining_turns same one two =
+          record {
             left = lining_ahead.others;
-            reaches = lining_ahead.reaches;
-            before = w.before ++ next_line;
+            reaches = lining_ahead.behind;
             after = lining_step.others;
             comes = lining_step.rest;
-            joined = lining_joined;
-            ends = omega (arith, e, w.ends, ap length same, length-append w.before next_line);
-            holds =
-                h
-                ∙ ap (λ (x : List ℕ). written now out x) same
-                ∙ next_bytes buffer start w.before w.holds w.ends next_line (omega (arith, w.ends, lining_fits));
-          })
+            joined =
+                coming_bytes next_line lining_step.others lining_next long (two ∙ sym next_length)
+                (lent_written now out next_line (one ∙ sym next_length) (same ∙ front_line));
+          }
 
--- The line that the code writes is that of the body at the place.
-module _
-    {file : List ℕ} {r : Contents} {buffer : List ℕ} {start : ℕ} {now : List ℕ} {out place : ℕ} {u : Unpacked}
-    (h : ListedHeld file r)
-    (w : Lining file h.table buffer start now out place)
-    (l : place < length file)
-    (e : u ≡ unpacked_of (unpack_under (image_list r.images) (take r.body (drop place file)))) where
-  -- the body's numbers and texts
-  abbrev step : LinesStep h.table.images (body_at file (body_size h.table.images) place)
-      (bodies_behind file (body_size h.table.images) place (lining_ahead w l).others) w.after
-  step = lining_step w l
-
-  -- one number for each column
-  numbers_count : length step.numbers ≡ length h.table.images
-  numbers_count = unpacked_count h.table.images (body_at file (body_size h.table.images) place) step.unpacks
-
-  -- the numbers stand at the front of the array
-  values_front : take r.images.count u.numbers.values ≡ step.numbers
-  values_front =
-      let t = h.held in
-      let body : List ℕ = body_at file (body_size h.table.images) place in
-      ap (λ (k : ℕ). take k u.numbers.values) (t.count ∙ sym numbers_count)
-      ∙ unpack_values (unpack_body h.table.images body) (part_unpacked t file place e) step.unpacks
-      (omega (arith, numbers_count, t.sound.high))
-
-  -- so the texts are those of the arrays
-  front_texts : alpha_texts (take r.images.count r.images.values) (take r.images.count u.numbers.values) ≡ done step.texts
-  front_texts = ap₂ (λ (x : List Image) (y : List Number). alpha_texts x y) h.held.front values_front ∙ step.shows
-
-  pub front_has : HasTexts (take r.images.count r.images.values) (take r.images.count u.numbers.values)
-  front_has =
-      let t = h.held in
-      record {
-        checked = subst (λ (x : List Image). AllChecked x) (sym t.front) t.sound.all;
-        texts = step.texts;
-        exist = front_texts;
-        counted = texts_count t.sound.all step.numbers numbers_count step.shows ∙ sym (ap length t.front);
-      }
-
-  -- and so is the line
-  pub front_line : record_line (given (alpha_texts (take r.images.count r.images.values) (take r.images.count u.numbers.values))) ≡ next_line w l
-  unfolding given next_line
-  front_line = ap (λ (a : Answer (List (List ℕ))). record_line (given a)) front_texts
+    -- it is not refused
+    pub lining_reads : {B : Type 0} {ims : List Image} {x y : ℕ} → ims ≡ r.images.items → refused x y ≡ unpack_under ims (take r.body rest) → B
+    lining_reads e h = never (sym (h ∙ body_unpacked f.sound e (take r.body rest))) lining_step.unpacks

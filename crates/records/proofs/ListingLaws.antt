@@ -1,65 +1,16 @@
--- Laws of a listing: its length, its three parts in a buffer, and what the program prints of it. Assumes nothing.
-use Prim.Native.Nat.{ℕ, ◌+◌, ◌-◌, ◌*◌, ◌/◌, ◌<◌, ◌≤◌}
-use mathlib.Core.Path.{◌≡◌, ap, ap₂, sym, ◌∙◌}
-use mathlib.Core.Bool.{Bool, true, false}
-use mathlib.Core.List.{List, ◌++◌, append_assoc}
-use native.Mathlib.Omega.{arith}
-use lib.ListN.{length, length-append}
-use lib.Dec.{ltb}
+-- Laws of a listing: its length, whether it fits a buffer, and what the program prints of it. Assumes nothing.
+use Rattle.std.proofs.Common.{◌≡◌, ℕ, ◌+◌, ◌-◌, ◌*◌, ◌<◌, ◌≤◌, Bool, true, false, ltb, List, ◌++◌, length, ap, ap₂, sym, ◌∙◌, length-append, arith}
 use borrow.Author.Tests.{ltb-true, ltb-false}
 use Rattle.decimal.specs.Answer.{Answer, done, refused, ◌then◌}
+use Rattle.decimal.proofs.AnswerLaws.{never_done, then_next}
 use Rattle.codec.specs.declared.contents.Contents.{Contents}
 use Rattle.codec.specs.Contents.{Table}
-use Rattle.codec.specs.Answers.{within, written}
-use Rattle.decimal.proofs.AnswerLaws.{never_done}
+use Rattle.codec.specs.Answers.{within}
 use Rattle.records.specs.Writing.{decimal_text}
-use Rattle.records.specs.Files.{read_file, record_count}
-use Rattle.records.specs.Listing.{
-  columns_word,
-  records_word,
-  count_line,
-  file_lines,
-  listing_of,
-  listing,
-  listed,
-  max_file,
-  refusal_line,
-  printed_of,
-  report_of,
-  checked_file,
-  lines_of,
-}
-use Rattle.records.proofs.WritingLaws.{next_bytes}
-use Rattle.records.proofs.ReportLaws.{count_line_length, within_none, printed_long, printed_short, printed_refused, printed_within}
-use Rattle.records.proofs.LinesLaws.{line_some, FileListed, listed_length, ListedHeld}
-
--- The listing of a file whose bodies can all be read.
-
--- its first line, the lines of its records and its last
-pub parts_length : (first lines last : List ℕ) → length (first ++ (lines ++ last)) ≡ length first + length lines + length last
-parts_length first lines last = omega (arith, length-append first (lines ++ last), length-append lines last)
-
-module _ {file : List ℕ} {table : Table} (l : FileListed file table) where
-  pub listing_done : listing file ≡ done (listing_of table file (lines_of file))
-  unfolding listing ◌then◌
-  listing_done = rw (l.reads, l.lines)
-
-  -- how long it is
-  pub listing_length :
-      length (listing_of table file (lines_of file))
-      ≡ 18 + length (decimal_text (length table.images)) + length (decimal_text (record_count table file))
-      + record_count table file * (table.size - 1)
-  unfolding listing_of
-  listing_length =
-      let columns : ℕ = length table.images in
-      let records : ℕ = record_count table file in
-      omega (
-        arith,
-        parts_length (count_line columns_word columns) (lines_of file) (count_line records_word records),
-        count_line_length columns_word columns,
-        count_line_length records_word records,
-        listed_length l,
-      )
+use Rattle.records.specs.Files.{read_file}
+use Rattle.records.specs.Listing.{columns_word, records_word, file_lines, listing_of, listing, listed, max_file, refusal_line, printed_of, report_of, checked_file, lines_of}
+use Rattle.records.proofs.ReportLaws.{count_line_length, within_none, within_some, printed_long, printed_short, printed_refused, printed_within}
+use Rattle.records.proofs.LinesLaws.{records_of, first_line, last_line, listing_text, line_some, FileListed, listed_length}
 
 -- A file that is refused.
 
@@ -100,92 +51,56 @@ pub listed_refused : (file : List ℕ) (room : ℕ) {x y : ℕ} → checked_file
 unfolding listed ◌then◌
 listed_refused file room h = rw (listing_refused file h)
 
--- The listing in a buffer.
+-- The listing of a file whose bodies can all be read, in a buffer.
 
--- its three parts, one behind the other
-pub parts_written :
-    (buffer first lines last : List ℕ) {one two three : List ℕ} {start end : ℕ}
-    → length (first ++ (lines ++ last)) ≤ length buffer
-    → start ≡ 0 + length first
-    → end ≡ start + length lines
-    → one ≡ written buffer 0 first
-    → two ≡ written one start lines
-    → three ≡ written two end last
-    → three ≡ written buffer 0 (first ++ (lines ++ last))
-parts_written buffer first lines last {one} {two} {three} {start} {end} room e f h k m =
-    let long = parts_length first lines last in
-    let front = length-append first lines in
-    let behind : end ≡ 0 + length (first ++ lines) = omega arith in
-    let both : two ≡ written buffer 0 (first ++ lines) = k ∙ next_bytes buffer 0 first h e lines (omega arith) in
-    m
-    ∙ next_bytes buffer 0 (first ++ lines) both behind last (omega arith)
-    ∙ ap (λ (x : List ℕ). written buffer 0 x) (append_assoc first lines last)
+module _ {file : List ℕ} {r : Contents} (f : FileListed file r) where
+  -- how long it is
+  pub listing_length :
+      length (listing_text file r)
+      ≡ 18 + length (decimal_text (length r.images.items)) + length (decimal_text (records_of file r)) + records_of file r * (r.size - 1)
+  listing_length =
+      omega (
+        arith,
+        length-append (first_line r) (lines_of file ++ last_line file r),
+        length-append (lines_of file) (last_line file r),
+        count_line_length columns_word (length r.images.items),
+        count_line_length records_word (records_of file r),
+        listed_length f,
+      )
 
--- the count of records, as the code has it
-abbrev pub records_of : List ℕ → Contents → ℕ
-records_of file r = (length file - r.size) / r.body
-
--- the first and the last line
-abbrev pub first_line : Contents → List ℕ
-first_line r = count_line columns_word r.images.count
-
-abbrev pub last_line : List ℕ → Contents → List ℕ
-last_line file r = count_line records_word (records_of file r)
-
-module _ {file : List ℕ} {r : Contents} (h : ListedHeld file r) where
-  -- the count of records is the file's
-  records_same : records_of file r ≡ record_count h.table file
-  unfolding record_count
-  records_same = λ i. (length file - h.held.size i) / h.held.body i
-
-  -- so the lines are the listing's
-  listing_same : listing_of h.table file (lines_of file) ≡ first_line r ++ (lines_of file ++ last_line file r)
-  unfolding listing_of
-  listing_same =
-      ap₂ (λ (c n : ℕ). count_line columns_word c ++ (lines_of file ++ count_line records_word n)) (sym h.held.count) (sym records_same)
-
-  pub listed_parts : (room : ℕ) → listed file room ≡ within room (first_line r ++ (lines_of file ++ last_line file r))
-  unfolding listed ◌then◌
-  listed_parts room = rw (listing_done h.lists) (ap (within room) listing_same)
-
-  -- what the code's divisions and subtractions ask
-  pub listed_sizes : (0 < r.body) × (1 < r.size) × (r.size ≤ length file)
-  listed_sizes =
-      let l = h.lists in
-      let t = h.held in
-      let some = line_some h.table.images t.sound in
-      (omega (arith, l.some, t.body), omega (arith, l.size, t.size), omega (arith, l.reaches, t.size))
+  -- a line has a byte at least
+  pub listed_some : 1 < r.size
+  listed_some = omega (arith, f.size, line_some r.images.items f.sound)
 
   -- what the code measures
   module _
-      (room : ℕ) {one two : ℕ} {longer : Bool}
-      (columns : one ≡ length (decimal_text r.images.count))
+      (room : ℕ) {count one two : ℕ} {longer : Bool}
+      (counted : count ≡ length r.images.items)
+      (columns : one ≡ length (decimal_text count))
       (records : two ≡ length (decimal_text (records_of file r)))
-      (test : longer ≡ ltb room (18 + one + two + records_of file r * (r.size - 1))) where
-    -- is the listing's length
-    measured : 18 + one + two + records_of file r * (r.size - 1) ≡ length (first_line r ++ (lines_of file ++ last_line file r))
-    measured =
-        (λ i. 18 + counted i + numbered i + records_same i * (h.held.size i - 1))
-        ∙ sym (listing_length h.lists)
-        ∙ ap length listing_same
-      where
-        counted : one ≡ length (decimal_text (length h.table.images))
-        counted = columns ∙ ap (λ (n : ℕ). length (decimal_text n)) h.held.count
-
-        numbered : two ≡ length (decimal_text (record_count h.table file))
-        numbered = records ∙ ap (λ (n : ℕ). length (decimal_text n)) records_same
+      (test : longer ≡ ltb room (9 + one + (9 + two) + records_of file r * (r.size - 1))) where
+    -- is the length of the listing
+    pub measured : length (listing_text file r) ≡ 9 + one + records_of file r * (r.size - 1) + (9 + two)
+    measured = omega (arith, listing_length, columns ∙ ap (λ (n : ℕ). length (decimal_text n)) counted, records)
 
     -- the listing is longer than the room
     pub measured_long : longer ≡ true → listed file room ≡ refused 6 0
+    unfolding listed
     measured_long e =
-        let long = ltb-true room (18 + one + two + records_of file r * (r.size - 1)) (sym test ∙ e) in
-        listed_parts room ∙ within_none room (first_line r ++ (lines_of file ++ last_line file r)) (omega (arith, measured))
+        let long = ltb-true room (9 + one + (9 + two) + records_of file r * (r.size - 1)) (sym test ∙ e) in
+        then_next (within room) f.lists ∙ within_none room (listing_text file r) (omega (arith, measured))
 
     -- or it is not
-    pub measured_short : longer ≡ false → length (first_line r) + length (lines_of file) + length (last_line file r) ≤ room
+    pub measured_short : longer ≡ false → 9 + one + records_of file r * (r.size - 1) + (9 + two) ≤ room
     measured_short e =
-        let short = ltb-false room (18 + one + two + records_of file r * (r.size - 1)) (sym test ∙ e) in
-        omega (arith, measured, parts_length (first_line r) (lines_of file) (last_line file r))
+        let short = ltb-false room (9 + one + (9 + two) + records_of file r * (r.size - 1)) (sym test ∙ e) in
+        omega arith
+
+    pub measured_done : longer ≡ false → listed file room ≡ done (listing_text file r)
+    unfolding listed
+    measured_done e =
+        let short = measured_short e in
+        then_next (within room) f.lists ∙ within_some room (listing_text file r) (omega (arith, measured))
 
 -- What the program prints.
 
@@ -206,6 +121,6 @@ module _ (input : List ℕ) where
     report_refused h = report_short few ∙ printed_refused (listing input) (listing_refused input h)
 
     -- or a listing, as the call gives it
-    pub report_same : {table : Table} → FileListed input table → (room : ℕ) → listed input room ≡ within room (report_of input)
+    pub report_same : {r : Contents} → FileListed input r → (room : ℕ) → listed input room ≡ within room (report_of input)
     unfolding listed
-    report_same l room = printed_within (listing input) room (listing_done l) ∙ ap (within room) (sym (report_short few))
+    report_same l room = printed_within (listing input) room l.lists ∙ ap (within room) (sym (report_short few))

@@ -1,37 +1,32 @@
 -- How long what the listing program prints is at most: its buffer is never too short. Assumes nothing.
-use Prim.Native.Nat.{ℕ, ◌+◌, ◌-◌, ◌*◌, ◌≤◌}
-use mathlib.Core.Path.{◌≡◌, ap, sym, ◌∙◌}
-use mathlib.Core.List.{List}
-use mathlib.Core.Logic.{⊎_elim}
-use native.Mathlib.Omega.{arith}
+use Rattle.std.proofs.Common.{◌≡◌, ℕ, ◌+◌, ◌-◌, ◌*◌, ◌≤◌, List, length, refl, ap, ⊎_elim, length-drop, arith}
 use native.Mathlib.Nat.{mul-le-mul_left}
-use lib.ListN.{length}
-use Rattle.decimal.specs.Answer.{Answer, done, ◌then◌}
+use Rattle.decimal.specs.Answer.{done, ◌then◌}
+use Rattle.decimal.proofs.AnswerLaws.{then_done, one_answer}
 use Rattle.decimal.proofs.DigitLaws.{le_or_lt}
+use Rattle.codec.specs.declared.contents.Contents.{Contents}
 use Rattle.codec.specs.Columns.{body_size}
 use Rattle.codec.specs.Contents.{Table}
 use Rattle.codec.specs.Answers.{within}
 use Rattle.codec.specs.Alpha.{line_length}
-use Rattle.decimal.proofs.AnswerLaws.{then_done}
-use Rattle.records.specs.Files.{read_file, record_count}
-use Rattle.records.specs.Listing.{file_lines, listing_of, listing, max_file, max_report, report_of, checked_file, lines_of}
 use Rattle.codec.proofs.LineLaws.{line_bound}
+use Rattle.records.specs.Files.{read_file}
+use Rattle.records.specs.Listing.{file_lines, listing_of, listing, max_file, max_report, report_of, checked_file}
 use Rattle.records.proofs.WritingLaws.{decimal_few}
 use Rattle.records.proofs.ReportLaws.{refusal_few, within_some, printed_few}
-use Rattle.records.proofs.LinesLaws.{FileListed, file_listed}
-use Rattle.records.proofs.ListingLaws.{listing_done, listing_length, report_long, report_short}
+use Rattle.records.proofs.LinesLaws.{records_of, listing_text, FileListed, file_listed}
+use Rattle.records.proofs.ListingLaws.{listing_length, report_long, report_short}
 
 -- the listing of a file whose bodies can all be read
-listed_bound :
-    {file : List ℕ} {table : Table} → FileListed file table → length (listing_of table file (lines_of file)) ≤ 4 * length file + 64
-listed_bound {file} {table} l =
-    let n : ℕ = record_count table file in
-    let line : ℕ = line_length table.images in
-    let body : ℕ = body_size table.images in
-    let same : table.size - 1 ≡ line = omega (arith, l.size) in
-    let lines : n * (table.size - 1) ≡ n * line = ap (λ (k : ℕ). n * k) same in
-    let most : n * line ≤ n * (4 * body) = mul-le-mul_left n (line_bound l.sound.all) in
-    omega (arith, listing_length l, decimal_few (length table.images), decimal_few n, l.reaches)
+listed_bound : {file : List ℕ} {r : Contents} → FileListed file r → r.body ≡ body_size r.images.items → length (listing_text file r) ≤ 4 * length file + 64
+listed_bound {file} {r} f same =
+    let n : ℕ = records_of file r in
+    let line : ℕ = line_length r.images.items in
+    let few : r.size - 1 ≡ line = omega (arith, f.size) in
+    let lines : n * (r.size - 1) ≡ n * line = ap (λ (k : ℕ). n * k) few in
+    let bodies : n * r.body ≡ n * body_size r.images.items = ap (λ (k : ℕ). n * k) same in
+    let most : n * line ≤ n * (4 * body_size r.images.items) = mul-le-mul_left n (line_bound f.sound.all) in
+    omega (arith, listing_length f, decimal_few (length r.images.items), decimal_few n, f.reaches, length-drop r.size file)
 
 -- a listing tells that the bodies can all be read
 checked_done : (file : List ℕ) {bytes : List ℕ} → listing file ≡ done bytes → (table : Table) × (checked_file file ≡ done table)
@@ -53,10 +48,7 @@ pub listing_bound : (file : List ℕ) {bytes : List ℕ} → listing file ≡ do
 listing_bound file {bytes} h =
     let c = checked_done file h in
     let l = file_listed file c.1 in
-    let text : List ℕ = listing_of c.0 file (lines_of file) in
-    let both : ◌≡◌ {A = Answer (List ℕ)} (done text) (done bytes) = sym (listing_done l) ∙ h in
-    let same : text ≡ bytes = cc in
-    omega (arith, ap length same, listed_bound l)
+    omega (arith, ap length (one_answer l.lists h), listed_bound l refl)
 
 -- Published: what the program prints is at most four times as long as the longest file, and 64 bytes.
 pub report_bound : (input : List ℕ) → length (report_of input) ≤ max_report

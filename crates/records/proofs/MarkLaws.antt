@@ -1,14 +1,14 @@
 -- Laws of marks: document 01's are valid, what reading under valid marks drops and keeps, and the decimal mark in an alpha text.
 -- Assumes nothing.
-use Prim.Native.Nat.{ℕ, zero, suc, ◌+◌, ◌/◌, ◌^◌, ◌<◌, ◌≤◌}
+use Prim.Native.Nat.{ℕ, zero, suc, ◌+◌, ◌/◌, ◌^◌, ◌<◌}
 use mathlib.Core.Path.{◌≡◌, refl, ap, sym, ◌∙◌}
 use mathlib.Core.List.{List, [], ◌∷◌, ◌++◌, append_assoc}
 use mathlib.Core.Bool.{Bool, true, false, ◌||◌}
 use native.Mathlib.Omega.{arith}
 use borrow.Author.Tests.{eq-eqb, ne_eqb, eqb-true}
 use lib.Dec.{eqb, ltb}
-use lib.ListN.{length, take, drop, set, length-append}
-use lib.Seq.{set_at, length-take-le}
+use lib.ListN.{length, set, length-append}
+use lib.Seq.{set_at}
 use Rattle.decimal.specs.declared.image.Sign.{Sign}
 use Rattle.decimal.specs.declared.image.Sign.TheVariants.{Unsigned, Plus, Minus}
 use Rattle.decimal.specs.declared.image.Image.{Image}
@@ -19,7 +19,6 @@ use Rattle.decimal.specs.Image.{plus_byte, minus_byte, point_byte, comma_byte}
 use Rattle.decimal.specs.Truncation.{Truncated}
 use Rattle.decimal.proofs.DigitLaws.{digits_length}
 use Rattle.codec.specs.Columns.{sign_count}
-use Rattle.codec.specs.Answers.{written}
 use Rattle.codec.specs.Packing.{exponent_size}
 use Rattle.codec.specs.Alpha.{blank_byte, zero_byte, exponent_byte, digit_bytes, sign_text, fraction_text, exponent_text, alpha_text, tail_length, text_length}
 use Rattle.codec.proofs.AlphaLaws.{fraction_some, digit_bytes_length}
@@ -310,38 +309,17 @@ module _ (m : Marks) (im : Image) (t : Truncated) where
       ∙ ap (λ (l : List ℕ). with_decimal m (front_text im t) ++ l) (decimal_point m (back_text im t))
       ∙ (λ i. decimal_front i ++ m.decimal ∷ decimal_back i)
 
--- bytes parted anew
-parted_anew : (a f : List ℕ) (x : ℕ) (k d : List ℕ) → a ++ (f ++ x ∷ k) ++ d ≡ (a ++ f) ++ x ∷ (k ++ d)
-parted_anew a f x k d =
-    ap (λ (l : List ℕ). l ++ d) (sym (append_assoc a f (x ∷ k))) ∙ append_assoc (a ++ f) (x ∷ k) d
-
--- one byte of what is written, written over
-set_written : (b front back : List ℕ) (start x y : ℕ) → start ≤ length b
-    → set (written b start (front ++ x ∷ back)) (start + length front) y ≡ written b start (front ++ y ∷ back)
-unfolding written
-set_written b front back start x y h =
-    let rest = drop (start + length (front ++ x ∷ back)) b in
-    let before = take start b in
-    let place : length (before ++ front) ≡ start + length front = omega (arith, length-append before front, length-take-le start b h) in
-    let same : length (front ++ x ∷ back) ≡ length (front ++ y ∷ back) = omega (arith, length-append front (x ∷ back), length-append front (y ∷ back)) in
-    ap (λ (l : List ℕ). set l (start + length front) y) (parted_anew before front x back rest)
-    ∙ set_at (before ++ front) x (back ++ rest) y (start + length front) place
-    ∙ sym (parted_anew before front y back rest)
-    ∙ ap (λ (n : ℕ). before ++ (front ++ y ∷ back) ++ drop (start + n) b) same
-
--- a text written, with its point marked, is the text with the decimal mark written
-pub point_marked_lem : (m : Marks) (im : Image) (t : Truncated) (b : List ℕ) (start : ℕ) → start ≤ length b
-    → point_marked m im start (written b start (alpha_text im t)) ≡ written b start (with_decimal m (alpha_text im t))
+-- a text with its point marked is the text with the decimal mark
+pub point_marked_lem : (m : Marks) (im : Image) (t : Truncated) → point_marked m im (alpha_text im t) ≡ with_decimal m (alpha_text im t)
 unfolding point_marked
-point_marked_lem m im t b start h = go im.fraction refl
+point_marked_lem m im t = go im.fraction refl
   where
     go : (f : ℕ) → im.fraction ≡ f
-        → pick (eqb im.fraction 0) (written b start (alpha_text im t)) (set (written b start (alpha_text im t)) (start + point_place im) m.decimal)
-        ≡ written b start (with_decimal m (alpha_text im t))
-    go zero e = rw (eq-eqb im.fraction 0 e) (ap (written b start) (sym (decimal_plain m im t e)))
+        → pick (eqb im.fraction 0) (alpha_text im t) (set (alpha_text im t) (point_place im) m.decimal) ≡ with_decimal m (alpha_text im t)
+    go zero e = rw (eq-eqb im.fraction 0 e) (sym (decimal_plain m im t e))
     go (suc f) e =
         let some : im.fraction ≡ 0 → ⊥ = λ z. omega arith in
         rw (ne_eqb im.fraction 0 some)
-        ((λ i. set (written b start (text_pointed im t some i)) (start + sym (front_length im t) i) m.decimal)
-        ∙ set_written b (front_text im t) (back_text im t) start point_byte m.decimal h
-        ∙ ap (written b start) (sym (decimal_pointed m im t some)))
+        (ap (λ (l : List ℕ). set l (point_place im) m.decimal) (text_pointed im t some)
+        ∙ set_at (front_text im t) point_byte (back_text im t) m.decimal (point_place im) (front_length im t)
+        ∙ sym (decimal_pointed m im t some))

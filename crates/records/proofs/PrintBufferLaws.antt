@@ -1,38 +1,25 @@
 -- What the print loops have written into the buffer. Assumes nothing.
-use Prim.Native.Nat.{ℕ, zero, suc, ◌+◌, ◌-◌, ◌<◌, ◌≤◌}
-use mathlib.Core.Path.{◌≡◌, refl, ap, ap₂, sym, ◌∙◌}
-use mathlib.Core.List.{List, [], ◌∷◌, ◌++◌, append_assoc}
+use Prim.Native.Nat.{ℕ, ◌+◌, ◌-◌, ◌<◌, ◌≤◌}
+use mathlib.Core.Path.{◌≡◌, refl, ap, ap₂, sym, ◌∙◌, subst}
+use mathlib.Core.List.{List, [], ◌∷◌}
 use native.Mathlib.Omega.{arith}
-use native.Mathlib.Numerals.{add-one}
 use lib.ListN.{length, take, drop, get_or, set}
-use lib.Seq.{take_all, length-take-le, set_split}
+use lib.Seq.{take_all, length-take-le}
+use borrow.Rule.Slice.PartMut.{put_mid}
 use Rattle.codec.specs.Answers.{written}
+use Rattle.records.proofs.WritingLaws.{written_byte, lent_written}
 use Rattle.codec.proofs.BufferLaws.{written_none, written_next, written_length}
 use Rattle.records.specs.declared.fields.Element.{Element}
-use Rattle.records.specs.declared.fields.Element.TheVariants as element
-use Rattle.records.specs.Scanning.{field_length}
-use Rattle.records.specs.Fields.{element_bytes}
+use Rattle.records.specs.Fields.{element_bytes, element_spills}
 use Rattle.codec.specs.Walking.{line_end}
 use Rattle.records.specs.Printing.{literals, Print, print_from, LineReady}
 use Rattle.records.proofs.PrintLaws.{Step, literals_front, step_element, step_length_lem, step_line, step_literals}
-use Rattle.records.proofs.BoundLaws.{field_length_lem, ready_field}
-use Rattle.records.proofs.PlaceLaws.{Place, Stands, front_next, place_ends}
+use Rattle.records.proofs.BoundLaws.{ready_field}
+use Rattle.records.specs.declared.finding.Field.{Field}
+use Rattle.records.proofs.FindLaws.{NextField}
+use Rattle.records.proofs.PlaceLaws.{Place, Stands, element_size, first_left, front_next, next_part, place_ends, place_literals, zero_element}
 
 -- The buffer.
-
--- a part is no longer than asked
-pub part_size : (n : ℕ) (l : List ℕ) → length (take n l) ≤ n
-part_size zero l = omega arith
-part_size (suc n) [] = omega arith
-part_size (suc n) (x ∷ l) = omega (arith, part_size n l)
-
--- one byte stored
-written_one : (b : List ℕ) (k x : ℕ) → k < length b → set b k x ≡ written b k (x ∷ [])
-unfolding written
-written_one b k x h =
-    set_split b k x h
-    ∙ ap (λ (n : ℕ). take k b ++ (x ∷ drop n b)) (sym (add-one k))
-    ∙ sym (append_assoc (take k b) (x ∷ []) (drop (k + 1) b))
 
 -- a buffer into which so many bytes of the whole were written
 pub record Writing (entry texts line : List ℕ) (es : List Element) (out : ℕ) (buffer : List ℕ) : Type 0 where
@@ -74,68 +61,84 @@ module _ {entry texts line : List ℕ} {es : List Element} {p : Print} {out : �
             ∙ ap (written entry 0) (sym (front_next n h st l));
       }
 
-module _ {line texts : List ℕ} {es : List Element} {used from out : ℕ} {entry buffer : List ℕ}
-    (w : Writing entry texts line es out buffer) (p : Place line es used from out) where
+module _ {line texts : List ℕ} {es left : List Element} {from out : ℕ} {entry buffer : List ℕ}
+    (w : Writing entry texts line es out buffer) (p : Place line es left from out) where
   -- the literal bytes have room
   pub literals_room : {start : ℕ} → start ≡ from + length (literals (drop from line)) → out + (start - from) ≤ length buffer
   literals_room {start} first =
-      omega (arith, writing_room w (p.stands texts) (step_literals texts line (drop used es) from start first))
+      omega (arith, writing_room w (p.stands texts) (step_literals texts line left from start first))
 
   -- the literal bytes are written
-  pub writing_literals : {start : ℕ} {next : List ℕ} → start ≡ from + length (literals (drop from line))
-      → next ≡ written buffer out (take (start - from) (drop from line))
-      → Writing entry texts line es (out + (start - from)) next
-  writing_literals {start} {next} first e =
+  pub writing_literals : {start : ℕ} {lent : List ℕ} → start ≡ from + length (literals (drop from line))
+      → lent ≡ take (start - from) (drop from line)
+      → Writing entry texts line es (out + (start - from)) (put_mid out (out + (start - from) - out) buffer lent)
+  writing_literals {start} {lent} first e =
       let n : start - from ≡ length (literals (drop from line)) = omega arith in
+      let m : out + (start - from) - out ≡ length (literals (drop from line)) = omega arith in
       writing_next w (p.stands texts) (start - from)
-      (step_literals texts line (drop used es) from start first)
+      (step_literals texts line left from start first)
       (sym n)
-      (e ∙ ap (written buffer out) (ap (λ (k : ℕ). take k (drop from line)) n ∙ (literals_front (drop from line)).1))
-
-  -- an element has room
-  pub element_room : {size : ℕ} → used < length es → size ≡ field_length (drop from line) → (size ≡ 0 → ⊥) → out + size ≤ length buffer
-  element_room {size} h found n =
-      let d : Element = element.Text 0 0 in
-      let m : field_length (drop from line) ≡ 0 → ⊥ = λ z. n (found ∙ z) in
-      omega (
-        arith,
-        writing_room w (p.stands texts) (step_element texts line es used from d h m),
-        field_length_lem texts (drop from line) (get_or es used d) m,
-      )
-
-  -- an element is written
-  pub writing_element : {size : ℕ} {next : List ℕ} (d e : Element) → used < length es → size ≡ field_length (drop from line) → (size ≡ 0 → ⊥) → get_or es used d ≡ e
-      → next ≡ written buffer out (element_bytes texts (take (from + size - from) (drop from line)) e)
-      → Writing entry texts line es (out + size) next
-  writing_element {size} {next} d e h found n same k =
-      let m : field_length (drop from line) ≡ 0 → ⊥ = λ z. n (found ∙ z) in
-      let part : from + size - from ≡ field_length (drop from line) = omega arith in
-      writing_next w (p.stands texts) size
-      (step_element texts line es used from d h m)
-      (field_length_lem texts (drop from line) (get_or es used d) m ∙ sym found)
-      (k ∙ ap₂ (λ (i : ℕ) (x : Element). written buffer out (element_bytes texts (take i (drop from line)) x)) part (sym same))
+      (lent_written buffer out (literals (drop from line)) m (e ∙ ap (λ (k : ℕ). take k (drop from line)) n ∙ (literals_front (drop from line)).1))
 
   -- 0A has room
-  pub line_room : LineReady line es → used < length es → from ≡ length line → out < length buffer
+  pub line_room : LineReady line es → 0 < length left → from ≡ length line → out < length buffer
   line_room r h over =
-      omega (
-        arith,
-        writing_room w (p.stands texts) (step_line texts line es used from h (ready_field line es r (omega arith)) over),
-      )
+      omega (arith, writing_room w (p.stands texts) (step_line texts line left from h (ready_field line es r (omega (arith, p.within))) over))
 
   -- 0A is written
-  pub writing_line : {next : List ℕ} → LineReady line es → used < length es → from ≡ length line → next ≡ set buffer out line_end
+  pub writing_line : {next : List ℕ} → LineReady line es → 0 < length left → from ≡ length line → next ≡ set buffer out line_end
       → Writing entry texts line es (out + 1) next
   writing_line {next} r h over e =
       writing_next w (p.stands texts) 1
-      (step_line texts line es used from h (ready_field line es r (omega arith)) over)
+      (step_line texts line left from h (ready_field line es r (omega (arith, p.within))) over)
       refl
-      (e ∙ written_one buffer out line_end (line_room r h over))
+      (e ∙ written_byte buffer out line_end (line_room r h over))
 
   -- all is written
-  pub writing_ends : used ≡ length es → literals (drop from line) ≡ []
+  pub writing_ends : length left ≡ 0 → literals (drop from line) ≡ []
       → buffer ≡ written entry 0 (print_from texts line line es).bytes
   writing_ends u n =
       w.holds
       ∙ ap (written entry 0)
       (take_all out (print_from texts line line es).bytes (omega (arith, place_ends p u n texts)))
+
+-- One turn of the inner loop.
+
+module _ {line texts : List ℕ} {es left : List Element} {next from out : ℕ} {entry buffer lent : List ℕ} {f : Field}
+    (w : Writing entry texts line es out buffer) (p : Place line es left from out) (x : NextField line next from f) (h : 0 < length left)
+    (literal : lent ≡ take (f.start - from) (drop from line)) where
+  -- the first element left, behind the literal bytes
+  first_place : Place line es (get_or left 0 zero_element ∷ take (length left - 1) (drop 1 left)) f.start (out + (f.start - from))
+  first_place = subst (λ (l : List Element). Place line es l f.start (out + (f.start - from))) (first_left left h) (place_literals p x.first)
+
+  -- its step
+  first_step : Step (print_from texts line (drop f.start line) (get_or left 0 zero_element ∷ take (length left - 1) (drop 1 left)))
+      (element_bytes texts (take f.length (drop f.start line)) (get_or left 0 zero_element))
+      (element_spills (take f.length (drop f.start line)) (get_or left 0 zero_element))
+      (print_from texts line (drop (f.start + f.length) line) (take (length left - 1) (drop 1 left)))
+  first_step = step_element texts line (get_or left 0 zero_element) (take (length left - 1) (drop 1 left)) f.start x.found x.some
+
+  -- the buffer with the literal bytes
+  abbrev filled : List ℕ
+  filled = put_mid out (out + (f.start - from) - out) buffer lent
+
+  -- it has room
+  pub element_room : out + (f.start - from) + f.length ≤ length filled
+  element_room =
+      omega (
+        arith,
+        writing_room (writing_literals w p x.first literal) (first_place.stands texts) first_step,
+        element_size texts line (get_or left 0 zero_element) f.start x.found x.some,
+      )
+
+  -- it is written
+  pub writing_element : {part : List ℕ}
+      → part ≡ element_bytes texts (take (f.start + f.length - f.start) (drop f.start line)) (get_or left 0 zero_element)
+      → Writing entry texts line es (out + (f.start - from) + f.length)
+      (put_mid (out + (f.start - from)) (out + (f.start - from) + f.length - (out + (f.start - from))) filled part)
+  writing_element {part} k =
+      let long = element_size texts line (get_or left 0 zero_element) f.start x.found x.some in
+      writing_next (writing_literals w p x.first literal) (first_place.stands texts) f.length
+      first_step
+      long
+      (lent_written filled (out + (f.start - from)) _ (omega (arith, long)) (rw (next_part x) at k))

@@ -2,14 +2,16 @@
 use Prim.Native.Nat.{ℕ, ◌<◌, ◌≤◌}
 use mathlib.Core.Path.{◌≡◌, refl, ap, sym, ◌∙◌}
 use mathlib.Core.List.{List}
+use native.Mathlib.Omega.{arith}
 use borrow.Author.Tests.{lt-ltb, le-ltb}
 use lib.ListN.{length}
-use Rattle.decimal.specs.Answer.{Answer, done, refused, ◌then◌}
+use Rattle.decimal.specs.Answer.{Answer, done, refused, ◌then◌, mapped}
+use Rattle.decimal.proofs.AnswerLaws.{mapped_done, mapped_refused}
 use Rattle.codec.specs.Answers.{stored_in, written}
 use Rattle.codec.proofs.BufferLaws.{written_stored}
 use Rattle.records.specs.declared.fields.Element.{Element}
-use Rattle.records.specs.Printing.{Print, print_from, check_fields, check_elements, check_some, check_counts, printed, room_for, printing, Counts, counts_of, bytes_of, line_checks, LineReady}
-use Rattle.records.proofs.CheckLaws.{counts_done, line_elements}
+use Rattle.records.specs.declared.printing.Printed.{Printed}
+use Rattle.records.specs.Printing.{Print, print_from, check_fields, check_elements, check_some, check_counts, printed, room_for, printing, printed_of, bytes_of, line_checks}
 
 -- The print call.
 
@@ -33,7 +35,7 @@ module _ (line : List ℕ) (es : List Element) (texts : List ℕ) (room : ℕ) w
       (done (print_from texts line line es)))
 
   -- a check refuses
-  pub printing_refused : (n k : ℕ) → line_checks line es (length texts) ≡ refused n k → printing line es texts room ≡ refused n k
+  printing_refused : (n k : ℕ) → line_checks line es (length texts) ≡ refused n k → printing line es texts room ≡ refused n k
   unfolding ◌then◌
   printing_refused n k h =
       printing_steps ∙ ap (λ (a : Answer (Unit {0})). (a then λ _. done (print_from texts line line es)) then room_for room) h
@@ -45,45 +47,47 @@ module _ (line : List ℕ) (es : List Element) (texts : List ℕ) (room : ℕ) w
       printing_steps ∙ ap (λ (a : Answer (Unit {0})). (a then λ _. done (print_from texts line line es)) then room_for room) h
 
   -- there is no room
-  pub printing_long : line_checks line es (length texts) ≡ done tt → room < length (print_from texts line line es).bytes
+  printing_long : line_checks line es (length texts) ≡ done tt → room < length (print_from texts line line es).bytes
       → printing line es texts room ≡ refused 6 0
   unfolding room_for
   printing_long h l = printing_checked h ∙ rw (lt-ltb room (length (print_from texts line line es).bytes) l)
 
   -- there is room
-  pub printing_done : line_checks line es (length texts) ≡ done tt → length (print_from texts line line es).bytes ≤ room
+  printing_done : line_checks line es (length texts) ≡ done tt → length (print_from texts line line es).bytes ≤ room
       → printing line es texts room ≡ done (print_from texts line line es)
   unfolding room_for
   printing_done h l = printing_checked h ∙ rw (le-ltb room (length (print_from texts line line es).bytes) l)
 
--- what a refused call answers, and that no byte changes
-pub answer_refused : (a : Answer Print) (n k : ℕ) (buffer : List ℕ) → a ≡ refused n k
-    → (refused n k ≡ counts_of a) × (buffer ≡ stored_in (bytes_of a) buffer)
-unfolding counts_of bytes_of stored_in
-answer_refused a n k buffer h = (ap counts_of (sym h), ap (λ (x : Answer Print). stored_in (bytes_of x) buffer) (sym h))
+module _ (line : List ℕ) (es : List Element) (texts buffer : List ℕ) where
+  -- what a call answers, and the bytes behind it
+  abbrev pub Prints : Answer Printed → List ℕ → Type 0
+  Prints answer next =
+      (answer ≡ mapped printed_of (printing line es texts (length buffer)))
+      × (next ≡ stored_in (mapped bytes_of (printing line es texts (length buffer))) buffer)
 
--- what a call that prints answers, and the bytes written
-pub answer_printed : (a : Answer Print) (p : Print) (buffer : List ℕ) {size spilled : ℕ} {next : List ℕ} → a ≡ done p → size ≡ length p.bytes
-    → spilled ≡ p.spilled
-    → next ≡ written buffer 0 p.bytes
-    → (done (record { size = size; spilled = spilled }) ≡ counts_of a) × (next ≡ stored_in (bytes_of a) buffer)
-unfolding counts_of bytes_of
-answer_printed a p buffer {size} {spilled} {next} h n k e = (
-  (λ i. done (record { size = n i; spilled = k i })) ∙ ap counts_of (sym h),
-  e ∙ written_stored buffer p.bytes ∙ ap (λ (x : Answer Print). stored_in (bytes_of x) buffer) (sym h),
-)
+  -- a refused call changes no byte
+  answer_refused : {number place : ℕ} → printing line es texts (length buffer) ≡ refused number place → Prints (refused number place) buffer
+  unfolding stored_in
+  answer_refused h = (sym (mapped_refused printed_of h), ap (λ (a : Answer (List ℕ)). stored_in a buffer) (sym (mapped_refused bytes_of h)))
 
--- a call that a check refuses
-pub print_refused : (line : List ℕ) (es : List Element) (texts buffer : List ℕ) {m : Answer Counts} {number place : ℕ} → m ≡ refused number place
-    → line_checks line es (length texts) ≡ refused number place
-    → (m ≡ counts_of (printing line es texts (length buffer))) × (buffer ≡ stored_in (bytes_of (printing line es texts (length buffer))) buffer)
-print_refused line es texts buffer {m} {number} {place} e h =
-    let both =
-    answer_refused (printing line es texts (length buffer)) number place buffer (printing_refused line es texts (length buffer) number place h) in
-    (e ∙ both.0, both.1)
+  -- a call that a check refuses
+  pub print_refused : {number place : ℕ} → line_checks line es (length texts) ≡ refused number place → Prints (refused number place) buffer
+  print_refused {number} {place} h = answer_refused (printing_refused line es texts (length buffer) number place h)
 
--- the checks of a line that can be measured are its elements'
-pub ready_checks : {line : List ℕ} {es : List Element} (room : ℕ) → LineReady line es → check_fields 0 0 line ≡ done tt
-    → line_checks line es room ≡ check_elements room 0 es
-ready_checks {line} {es} room r fields =
-    line_elements line es room (counts_done (length es) (length line) r.few r.short) fields r.some
+  -- one whose buffer is too short
+  pub print_long : {size : ℕ} → line_checks line es (length texts) ≡ done tt → size ≡ length (print_from texts line line es).bytes → length buffer < size
+      → Prints (refused 6 0) buffer
+  print_long h n l = answer_refused (printing_long line es texts (length buffer) h (omega arith))
+
+  -- one that prints
+  pub print_done : {p : Printed} {next : List ℕ} → line_checks line es (length texts) ≡ done tt
+      → (p.bytes ≡ length (print_from texts line line es).bytes) × (p.spilled ≡ (print_from texts line line es).spilled)
+      → p.bytes ≤ length buffer
+      → next ≡ written buffer 0 (print_from texts line line es).bytes
+      → Prints (done p) next
+  print_done h n l e =
+      let done_all = printing_done line es texts (length buffer) h (omega (arith, n.0)) in
+      let all = print_from texts line line es in (
+        (λ i. done (record { bytes = n.0 i; spilled = n.1 i })) ∙ sym (mapped_done printed_of done_all),
+        e ∙ written_stored buffer all.bytes ∙ ap (λ (a : Answer (List ℕ)). stored_in a buffer) (sym (mapped_done bytes_of done_all)),
+      )

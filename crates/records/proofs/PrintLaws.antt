@@ -1,18 +1,16 @@
 -- Document 01, Print lines: laws of what a line prints, step by step: literal bytes, an element in a field, the line's end. Assumes nothing.
-use Prim.Native.Nat.{ℕ, suc, ◌+◌, ◌<◌, ◌≤◌}
+use Prim.Native.Nat.{ℕ, ◌+◌, ◌<◌, ◌≤◌}
 use mathlib.Core.Path.{◌≡◌, refl, ap, ap₂, sym, ◌∙◌}
 use mathlib.Core.Logic.{⊎_elim}
 use mathlib.Core.List.{List, [], ◌∷◌, ◌++◌, append_assoc, append-nil}
 use native.Mathlib.Omega.{arith}
 use native.Mathlib.Nat.{zero-add}
-use native.Mathlib.Numerals.{add-one}
 use borrow.Author.Tests.{lt-ltb, le-ltb, eq-eqb, ne_eqb}
-use lib.ListN.{length, take, drop, get_or, length-append}
-use lib.Seq.{take_all, drop-drop, drop-cons, drop-length}
+use lib.ListN.{length, take, drop, length-append}
+use lib.Seq.{take_all, drop-drop, drop-length}
 use Rattle.decimal.proofs.DigitLaws.{le_or_lt}
 use Rattle.decimal.proofs.BoolLaws.{zero_or_not}
 use Rattle.records.specs.declared.fields.Element.{Element}
-use Rattle.records.specs.declared.fields.Element.TheVariants as element
 use Rattle.records.specs.Scanning.{field_length}
 use Rattle.records.specs.Fields.{element_bytes, element_spills}
 use Rattle.codec.specs.Walking.{line_end}
@@ -214,43 +212,35 @@ step_literals texts line es from start h =
     }
 
 -- an element in the field at a place
-pub step_element : (texts line : List ℕ) (es : List Element) (used start : ℕ) (d : Element)
-    → used < length es
-    → (field_length (drop start line) ≡ 0 → ⊥)
+pub step_element : (texts line : List ℕ) (e : Element) (es : List Element) (start : ℕ) {size : ℕ} → size ≡ field_length (drop start line)
+    → (size ≡ 0 → ⊥)
     → Step
-    (print_from texts line (drop start line) (drop used es))
-    (element_bytes texts (take (field_length (drop start line)) (drop start line)) (get_or es used d))
-    (element_spills (take (field_length (drop start line)) (drop start line)) (get_or es used d))
-    (print_from texts line (drop (start + field_length (drop start line)) line) (drop (used + 1) es))
-step_element texts line es used start d h n =
+    (print_from texts line (drop start line) (e ∷ es))
+    (element_bytes texts (take size (drop start line)) e)
+    (element_spills (take size (drop start line)) e)
+    (print_from texts line (drop (start + size) line) es)
+step_element texts line e es start {size} h n =
     let left : List ℕ = drop start line in
-    record {
+    rw h
+    (record {
       step_is =
-          ap (print_from texts line left) (drop-cons es used d h)
-          ∙ print_element texts line left (get_or es used d) (drop (suc used) es) n
-          ∙ ap₂
-          (λ (l : List ℕ) (k : ℕ).
-          and_then
-          (element_bytes texts (take (field_length left) left) (get_or es used d))
-          (element_spills (take (field_length left) left) (get_or es used d))
-          (print_from texts line l (drop k es)))
-          (drop-drop (field_length left) start line)
-          (sym (add-one used));
-    }
+          print_element texts line left e es (λ z. n (h ∙ z))
+          ∙ ap
+          (λ (l : List ℕ).
+          and_then (element_bytes texts (take (field_length left) left) e) (element_spills (take (field_length left) left) e) (print_from texts line l es))
+          (drop-drop (field_length left) start line);
+    })
 
 -- the line's end with an element left
-pub step_line : (texts line : List ℕ) (es : List Element) (used from : ℕ)
-    → used < length es
+pub step_line : (texts line : List ℕ) (es : List Element) (from : ℕ)
+    → 0 < length es
     → length (literals line) < length line
     → from ≡ length line
-    → Step (print_from texts line (drop from line) (drop used es)) (line_end ∷ []) 0 (print_from texts line line (drop used es))
-step_line texts line es used from h n f =
-    let d : Element = element.Text 0 0 in
-    let e : Element = get_or es used d in
-    let tail : List Element = drop (suc used) es in
+    → Step (print_from texts line (drop from line) es) (line_end ∷ []) 0 (print_from texts line line es)
+step_line texts line [] from h n f = absurd (omega arith)
+step_line texts line (e ∷ es) from h n f =
     record {
       step_is =
-          ap₂ (print_from texts line) (ap (λ (k : ℕ). drop k line) f ∙ drop-length line) (drop-cons es used d h)
-          ∙ print_again texts line e tail n
-          ∙ ap (λ (x : List Element). and_then (line_end ∷ []) 0 (print_from texts line line x)) (sym (drop-cons es used d h));
+          ap (λ (l : List ℕ). print_from texts line l (e ∷ es)) (ap (λ (k : ℕ). drop k line) f ∙ drop-length line)
+          ∙ print_again texts line e es n;
     }

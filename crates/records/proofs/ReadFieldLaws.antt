@@ -7,8 +7,8 @@ use mathlib.Core.Bool.{Bool, true, false, ◌||◌, false≢true}
 use native.Mathlib.Omega.{arith}
 use native.Mathlib.Numerals.{add-one}
 use lib.Dec.{eqb}
-use lib.ListN.{length, take, drop, get_or, set, length-append}
-use lib.Seq.{drop-cons, take-suc-set, append_snoc, drop-length}
+use lib.ListN.{length, drop, get_or, length-append, drop_of_length-le}
+use lib.Seq.{drop-cons}
 use Rattle.decimal.specs.declared.image.Sign.{Sign}
 use Rattle.decimal.specs.declared.image.Sign.TheVariants.{Unsigned, Plus, Minus}
 use Rattle.decimal.specs.Answer.{refused, pick}
@@ -145,18 +145,11 @@ module _ (m : Marks) (field : List ℕ) (j : ℕ) (inside : j < length field) wh
       ap (without_marks m) (drop-cons field j 0 inside)
       ∙ rw e (ap (λ (k : ℕ). read_byte m (get_or field j 0) ∷ without_marks m (drop k field)) (sym (add-one j)))
 
--- a byte stored behind the kept bytes
-pub stored_behind : (text : List ℕ) (kept b : ℕ) (rest : List ℕ) → kept < length text → take kept text ++ b ∷ rest ≡ take (kept + 1) (set text kept b) ++ rest
-stored_behind text kept b rest h =
-    sym (append_snoc (take kept text) b rest)
-    ∙ ap (λ (l : List ℕ). l ++ rest) (sym (take-suc-set text kept b h))
-    ∙ ap (λ (k : ℕ). take k (set text kept b) ++ rest) (sym (add-one kept))
-
 -- the kept bytes at the field's end
-pub kept_all : (m : Marks) (field text : List ℕ) (kept j : ℕ) → j ≡ length field
-    → without_marks m field ≡ take kept text ++ without_marks m (drop j field) → take kept text ≡ without_marks m field
+pub kept_all : (m : Marks) (field kept : List ℕ) (j : ℕ) → length field ≤ j → without_marks m field ≡ kept ++ without_marks m (drop j field)
+    → kept ≡ without_marks m field
 unfolding without_marks
-kept_all m field text kept j e made =
-    sym (append-nil (take kept text))
-    ∙ ap (λ (l : List ℕ). take kept text ++ without_marks m l) (sym (ap (λ (k : ℕ). drop k field) e ∙ drop-length field))
+kept_all m field kept j e made =
+    sym (append-nil kept)
+    ∙ ap (λ (l : List ℕ). kept ++ without_marks m l) (sym (drop_of_length-le field {i = j} e))
     ∙ sym made

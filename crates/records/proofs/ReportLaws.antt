@@ -1,24 +1,20 @@
 -- Laws of the lines of a listing, and of what the program prints of its answer. Assumes nothing.
-use Prim.Native.Nat.{ℕ, suc, ◌+◌, ◌-◌, ◌*◌, ◌/◌, ◌<◌, ◌≤◌}
+use Prim.Native.Nat.{ℕ, suc, ◌+◌, ◌<◌, ◌≤◌}
 use mathlib.Core.Path.{◌≡◌, refl, ap, sym, ◌∙◌}
-use mathlib.Core.Logic.{⊎_elim}
-use mathlib.Core.List.{List, [], ◌∷◌, ◌++◌, append_assoc}
+use mathlib.Core.List.{List, [], ◌∷◌, ◌++◌}
 use mathlib.Core.Bool.{Bool}
 use native.Mathlib.Omega.{arith}
-use native.Mathlib.Nat.{div-lt_iff_lt-mul, le-div_iff_mul-le}
 use borrow.Author.Tests.{lt-ltb, le-ltb}
 use lib.Dec.{ltb}
-use lib.ListN.{length, set, length-append}
-use lib.Seq.{append_snoc}
+use lib.ListN.{length, length-append}
 use Rattle.decimal.specs.Answer.{Answer, done, refused, ◌then◌, pick}
 use Rattle.decimal.specs.Digits.{digits_of}
-use Rattle.decimal.proofs.DigitLaws.{le_or_lt}
-use Rattle.codec.specs.Answers.{stored_in, within, written, sized}
+use Rattle.codec.specs.Answers.{stored_in, within, sized}
 use Rattle.codec.specs.Alpha.{blank_byte, digit_bytes}
 use Rattle.codec.specs.Walking.{line_end}
 use Rattle.records.specs.Writing.{without_zeros, decimal_text}
 use Rattle.records.specs.Listing.{columns_word, records_word, refused_word, count_line, refusal_line, max_file, printed_of}
-use Rattle.records.proofs.WritingLaws.{kept_length, next_bytes, next_byte, decimal_few}
+use Rattle.records.proofs.WritingLaws.{decimal_few}
 
 -- The line of a count.
 
@@ -28,39 +24,6 @@ module _ (word : List ℕ) (n : ℕ) where
   unfolding count_line
   count_line_length =
       omega (arith, length-append word (decimal_text n ++ (line_end ∷ [])), length-append (decimal_text n) (line_end ∷ []))
-
-  -- the three written, one behind the other
-  module _
-      (b : List ℕ) (start : ℕ) {first : List ℕ}
-      (room : start + length (count_line word n) ≤ length b)
-      (one : first ≡ written b start word) where
-    -- the buffer keeps its length
-    word_length : length first ≡ length b
-    word_length = kept_length b start word one refl (omega (arith, count_line_length))
-
-    -- there is room for the digits
-    pub count_digits_room : start + length word + length (decimal_text n) ≤ length first
-    count_digits_room = omega (arith, count_line_length, word_length)
-
-    module _ {second : List ℕ} (two : second ≡ written first (start + length word) (decimal_text n)) where
-      -- the buffer keeps its length
-      count_length : length second ≡ length b
-      count_length = kept_length first (start + length word) (decimal_text n) two refl count_digits_room ∙ word_length
-
-      module _ {end : ℕ} (ends : end ≡ start + length word + length (decimal_text n)) where
-        -- there is room for 0A
-        pub count_end_room : end < length second
-        count_end_room = omega (arith, count_line_length, count_length)
-
-        -- and the line is written
-        pub count_written : set second end line_end ≡ written b start (count_line word n)
-        unfolding count_line
-        count_written =
-            let text = decimal_text n in
-            let size = count_line_length in
-            let both = two ∙ next_bytes b start word one refl text (omega arith) in
-            next_byte b start (word ++ text) both (omega (arith, length-append word text)) line_end (omega arith)
-            ∙ ap (written b start) (append_assoc word text (line_end ∷ []))
 
 -- The line of a refusal.
 
@@ -79,69 +42,6 @@ module _ (number place : ℕ) where
   -- at most 64 bytes
   pub refusal_few : length (refusal_line number place) ≤ 64
   refusal_few = omega (arith, refusal_length, decimal_few number, decimal_few place)
-
-  -- the parts put together one behind the other
-  refusal_parts :
-      (((refused_word ++ decimal_text number) ++ (blank_byte ∷ [])) ++ decimal_text place) ++ (line_end ∷ []) ≡ refusal_line number place
-  unfolding refusal_line
-  refusal_parts =
-      let front = refused_word ++ decimal_text number in
-      let last = line_end ∷ [] in
-      append_assoc (front ++ (blank_byte ∷ [])) (decimal_text place) last
-      ∙ append_snoc front blank_byte (decimal_text place ++ last)
-      ∙ append_assoc refused_word (decimal_text number) (blank_byte ∷ (decimal_text place ++ last))
-
-  -- the parts written so: the word has 8 bytes, and the counts of both digits are known
-  module _
-      (b : List ℕ) {first second : List ℕ} {n p : ℕ}
-      (one : first ≡ written b 0 refused_word)
-      (two : second ≡ written first 8 (decimal_text number))
-      (long : n ≡ length (decimal_text number))
-      (long' : p ≡ length (decimal_text place))
-      (room : 8 + n + 1 + p < length b) where
-    -- the word and the number
-    front : List ℕ
-    front = refused_word ++ decimal_text number
-
-    -- are written first
-    front_written : second ≡ written b 0 front
-    unfolding front
-    front_written = two ∙ next_bytes b 0 refused_word one refl (decimal_text number) (omega arith)
-
-    front_length : 8 + n ≡ 0 + length front
-    unfolding front
-    front_length = omega arith
-
-    -- then the blank
-    blank_written : set second (8 + n) blank_byte ≡ written b 0 (front ++ (blank_byte ∷ []))
-    blank_written = next_byte b 0 front front_written front_length blank_byte (omega arith)
-
-    blank_length : 8 + n + 1 ≡ 0 + length (front ++ (blank_byte ∷ []))
-    blank_length = omega (arith, front_length, length-append front (blank_byte ∷ []))
-
-    -- there is room for the place
-    pub refusal_place_room : 8 + n + 1 + length (decimal_text place) ≤ length (set second (8 + n) blank_byte)
-    refusal_place_room = omega (arith, kept_length b 0 (front ++ (blank_byte ∷ [])) blank_written blank_length (omega arith))
-
-    module _ {fourth : List ℕ} (four : fourth ≡ written (set second (8 + n) blank_byte) (8 + n + 1) (decimal_text place)) where
-      -- then the place is written
-      place_written : fourth ≡ written b 0 (front ++ (blank_byte ∷ []) ++ decimal_text place)
-      place_written = four ∙ next_bytes b 0 (front ++ (blank_byte ∷ [])) blank_written blank_length (decimal_text place) (omega arith)
-
-      place_length : 8 + n + 1 + p ≡ 0 + length (front ++ (blank_byte ∷ []) ++ decimal_text place)
-      place_length = omega (arith, blank_length, length-append (front ++ (blank_byte ∷ [])) (decimal_text place))
-
-      -- there is room for 0A
-      pub refusal_end_room : 8 + n + 1 + p < length fourth
-      refusal_end_room =
-          omega (arith, kept_length b 0 (front ++ (blank_byte ∷ []) ++ decimal_text place) place_written place_length (omega arith))
-
-      -- and the line is written
-      pub refusal_written : set fourth (8 + n + 1 + p) line_end ≡ written b 0 (refusal_line number place)
-      unfolding front
-      refusal_written =
-          next_byte b 0 (front ++ (blank_byte ∷ []) ++ decimal_text place) place_written place_length line_end room
-          ∙ ap (written b 0) refusal_parts
 
 -- document 01's lines
 pub record KnownLines : Type 0 where
@@ -179,11 +79,6 @@ module _ (a : Answer (List ℕ)) where
   unfolding printed_of
   printed_refused h = ap printed_of h
 
-  -- else the bytes
-  pub printed_done : {bytes : List ℕ} → a ≡ done bytes → printed_of a ≡ bytes
-  unfolding printed_of
-  printed_done h = ap printed_of h
-
   module _ (size : ℕ) where
     -- of an input that is too long, the line of its refusal
     pub printed_long : max_file < size → printed_of (pick (ltb max_file size) (refused 11 0) a) ≡ refusal_line 11 0
@@ -208,21 +103,10 @@ printed_few most h (done bytes) few = few bytes refl
 printed_few most h (refused number place) few = omega (arith, refusal_few number place)
 
 -- a call that passes on what another answers, where both are to answer alike
-pub passed_on :
+pub same_answers :
     {a b : Answer (List ℕ)}
     → a ≡ b
     → {found : Answer ℕ} (buffer : List ℕ) {after : List ℕ}
     → (found ≡ sized a) × (after ≡ stored_in a buffer)
     → (found ≡ sized b) × (after ≡ stored_in b buffer)
-passed_on e buffer (answer, bytes) = (answer ∙ ap sized e, bytes ∙ ap (λ (x : Answer (List ℕ)). stored_in x buffer) e)
-
--- Lines of one length.
-
-module _ (lines size others room : ℕ) (some : 0 < size) (fits : others ≤ room) where
-  -- they and the others are longer than the room where fewer lines fit behind the others
-  pub longer_test : ltb ((room - others) / size) lines ≡ ltb room (others + lines * size)
-  longer_test =
-      ⊎_elim
-      (λ h. le-ltb ((room - others) / size) lines ((le-div_iff_mul-le some).1 (omega arith)) ∙ sym (le-ltb room (others + lines * size) h))
-      (λ h. lt-ltb ((room - others) / size) lines ((div-lt_iff_lt-mul some).1 (omega arith)) ∙ sym (lt-ltb room (others + lines * size) h))
-      (le_or_lt (others + lines * size) room)
+same_answers e buffer (answer, bytes) = (answer ∙ ap sized e, bytes ∙ ap (λ (x : Answer (List ℕ)). stored_in x buffer) e)

@@ -1,20 +1,21 @@
--- The laws of the scanner's loop: the longest field so far, or what is found from here on, is the field's length.
+-- The laws of the scanner's loop: the longest field so far, or what is found from here on, is the field.
 -- Assumes nothing.
-use Prim.Native.Nat.{ℕ, zero, suc, ◌+◌, ◌-◌, ◌<◌, ◌≤◌}
+use Prim.Native.Nat.{ℕ, zero, suc, ◌+◌, ◌<◌, ◌≤◌}
 use native.Mathlib.Omega.{arith}
 use native.Mathlib.Numerals.{add-one}
 use mathlib.Core.Path.{◌≡◌, refl, ap, sym, ◌∙◌}
 use mathlib.Core.List.{List, [], ◌∷◌}
 use mathlib.Core.Bool.{Bool, true, false, false≢true}
 use lib.Dec.{eqb}
-use lib.ListN.{length, take, drop, get_or, length-drop, drop_of_length-le}
-use lib.Seq.{drop-cons, get_or-drop}
+use lib.ListN.{length, take, drop, get_or, drop_of_length-le}
+use lib.Seq.{drop-cons}
 use borrow.Author.Tests.{ne_eqb}
 use Rattle.decimal.specs.Image.{State, Start, Signed, Integer, Comma, Point, Fraction, Up, Stopped}
 use Rattle.decimal.specs.Answer.{pick}
 use Rattle.decimal.specs.Image.{next_state, run_state, integer_hash, fraction_hash, is_exponential, counted, integers_from, fractions_from, scanned_image}
 use Rattle.decimal.proofs.ImageLaws.{hash_once}
 use Rattle.decimal.proofs.ImageTails.{stopped_stays}
+use Rattle.records.specs.declared.scanning.Scanned.{Scanned}
 use Rattle.records.specs.Scanning.{is_field_state, is_stopped, longest_from, field_length, scanned_field}
 
 -- what is found later, else the best so far
@@ -52,72 +53,6 @@ is_stopped_lem (Point g) h = absurd (false≢true h)
 is_stopped_lem (Fraction g) h = absurd (false≢true h)
 is_stopped_lem (Up n) h = absurd (false≢true h)
 is_stopped_lem Stopped h = refl
-
--- the state and the longest field so far, of a line read from a start to an end
-pub record Searching (line : List ℕ) (start : ℕ) (state : State) (longest end : ℕ) : Type 0 where
-  pub behind : start ≤ end
-  pub finds : later (longest_from state (end - start) (drop end line)) longest ≡ field_length (drop start line)
-
--- before the first byte
-pub searching_starts : (line : List ℕ) (start : ℕ) → Searching line start Start 0 start
-unfolding field_length
-searching_starts line start =
-    let none : start - start ≡ 0 = omega arith in
-    record {
-      behind = omega arith;
-      finds = later_zero _ ∙ ap (λ (n : ℕ). longest_from Start n (drop start line)) none;
-    }
-
--- one byte further, the longest field is the one that ends here, if one does
-pub searching_turns : {line : List ℕ} {start : ℕ} {s t : State} {longest end : ℕ} → Searching line start s longest end
-    → end < length line → t ≡ next_state s (get_or line end 0)
-    → Searching line start t (pick (is_field_state t) (end + 1 - start) longest) (end + 1)
-unfolding longest_from
-searching_turns {line} {start} {s} {t} {longest} {end} r h e =
-    let b = r.behind in
-    let n : end + 1 - start ≡ suc (end - start) = omega arith in
-    let rest : List ℕ = drop (end + 1) line in
-    let left : drop end line ≡ get_or line end 0 ∷ rest = rw (add-one, drop-cons line end 0) in
-    record {
-      behind = omega arith;
-      finds =
-          ap (λ (k : ℕ). later (longest_from t k rest) (pick (is_field_state t) k longest)) n
-          ∙ sym (later_turn (longest_from t (suc (end - start)) rest) (end - start) longest (is_field_state t))
-          ∙ ap (λ (x : State). later (later (longest_from x (suc (end - start)) rest) (pick (is_field_state x) (suc (end - start)) 0)) longest) e
-          ∙ ap (λ (l : List ℕ). later (longest_from s (end - start) l) longest) (sym left)
-          ∙ r.finds;
-    }
-
--- where a field ends here
-pub searching_field : {line : List ℕ} {start : ℕ} {s t : State} {longest end : ℕ} → Searching line start s longest end
-    → end < length line → t ≡ next_state s (get_or line end 0) → is_field_state t ≡ true → Searching line start t (end + 1 - start) (end + 1)
-searching_field {line} {start} {s} {t} {longest} {end} r h e f =
-    rw f at (searching_turns r h e)
-
--- where none does
-pub searching_none : {line : List ℕ} {start : ℕ} {s t : State} {longest end : ℕ} → Searching line start s longest end
-    → end < length line → t ≡ next_state s (get_or line end 0) → is_field_state t ≡ false → Searching line start t longest (end + 1)
-searching_none {line} {start} {s} {t} {longest} {end} r h e f =
-    rw f at (searching_turns r h e)
-
--- where no field begins so, the longest so far is the longest
-pub searching_stops : {line : List ℕ} {start : ℕ} {s t : State} {longest end : ℕ} → Searching line start s longest end
-    → end < length line → t ≡ next_state s (get_or line end 0) → is_stopped t ≡ true → longest ≡ field_length (drop start line)
-searching_stops {line} {start} {s} {t} {longest} {end} r h e z =
-    let u : t ≡ Stopped = is_stopped_lem t z in
-    let none : is_field_state t ≡ false = ap is_field_state u in
-    let next = searching_none r h e none in
-    let nothing : longest_from t (end + 1 - start) (drop (end + 1) line) ≡ 0 =
-    ap (λ (x : State). longest_from x (end + 1 - start) (drop (end + 1) line)) u ∙ stopped_none (end + 1 - start) (drop (end + 1) line) in
-    sym (ap (λ (k : ℕ). later k longest) nothing) ∙ next.finds
-
--- behind the last byte
-pub searching_ends : {line : List ℕ} {start : ℕ} {s : State} {longest end : ℕ} → Searching line start s longest end
-    → length line ≤ end → longest ≡ field_length (drop start line)
-unfolding longest_from
-searching_ends {line} {start} {s} {longest} {end} r h =
-    let none : drop end line ≡ [] = drop_of_length-le line h in
-    sym (ap (λ (l : List ℕ). later (longest_from s (end - start) l) longest) none) ∙ r.finds
 
 -- What was read of bytes, one byte more.
 
@@ -160,21 +95,26 @@ hash_field (Fraction g) h = absurd (false≢true (sym h))
 hash_field (Up n) h = (refl, refl)
 hash_field Stopped h = (refl, refl)
 
--- the state after so many bytes, and the counts and the kind of the longest field so far; the bytes behind it have no # sign
-pub record Kept (bytes : List ℕ) (read : ℕ) (state : State) (longest integer fraction : ℕ) (exponential : Bool) : Type 0 where
-  pub few : integer + fraction ≤ read
+-- The scanner's loop, behind so many bytes: the state that they led to, and what was scanned, the longest field so far. The bytes behind that
+-- field have no # sign. The field of all bytes is the longest so far, or is found from here on.
+
+pub record Scanning (bytes : List ℕ) (scanned : Scanned) (state : State) (read : ℕ) : Type 0 where
+  pub finds : later (longest_from state read (drop read bytes)) scanned.length ≡ field_length bytes
+  pub few : scanned.integer + scanned.fraction ≤ read
   pub comes : state ≡ run_state Start (take read bytes)
-  pub integers : integer ≡ integers_from Start (take read bytes)
-  pub fractions : fraction ≡ fractions_from Start (take read bytes)
-  pub own_integers : integer ≡ integers_from Start (take longest bytes)
-  pub own_fractions : fraction ≡ fractions_from Start (take longest bytes)
-  pub kind : exponential ≡ is_exponential (run_state Start (take longest bytes))
+  pub integers : scanned.integer ≡ integers_from Start (take read bytes)
+  pub fractions : scanned.fraction ≡ fractions_from Start (take read bytes)
+  pub own_integers : scanned.integer ≡ integers_from Start (take scanned.length bytes)
+  pub own_fractions : scanned.fraction ≡ fractions_from Start (take scanned.length bytes)
+  pub kind : scanned.exponential ≡ is_exponential (run_state Start (take scanned.length bytes))
 
 -- before the first byte
-kept_starts : (bytes : List ℕ) → Kept bytes 0 Start 0 0 0 false
-unfolding run_state integers_from fractions_from
-kept_starts bytes =
+pub scanning_starts : (bytes : List ℕ)
+    → Scanning bytes (record { length = 0; integer = 0; fraction = 0; exponential = false }) Start 0
+unfolding field_length run_state integers_from fractions_from
+scanning_starts bytes =
     record {
+      finds = later_zero _;
       few = omega arith;
       comes = refl;
       integers = refl;
@@ -184,121 +124,102 @@ kept_starts bytes =
       kind = refl;
     }
 
-module _ {bytes : List ℕ} {read : ℕ} {s t : State} {longest integer fraction : ℕ} {exponential : Bool}
-    (k : Kept bytes read s longest integer fraction exponential) (h : read < length bytes) (e : t ≡ next_state s (get_or bytes read 0)) where
+module _ {bytes : List ℕ} {scanned : Scanned} {s t : State} {read : ℕ}
+    (r : Scanning bytes scanned s read) (h : read < length bytes) (e : t ≡ next_state s (get_or bytes read 0)) where
+  -- the longest field is the one that ends here, if one does
+  next_finds : later (longest_from t (suc read) (drop (suc read) bytes)) (pick (is_field_state t) (suc read) scanned.length) ≡ field_length bytes
+  unfolding longest_from
+  next_finds =
+      let rest : List ℕ = drop (suc read) bytes in
+      sym (later_turn (longest_from t (suc read) rest) read scanned.length (is_field_state t))
+      ∙ ap (λ (x : State). later (later (longest_from x (suc read) rest) (pick (is_field_state x) (suc read) 0)) scanned.length) e
+      ∙ ap (λ (l : List ℕ). later (longest_from s read l) scanned.length) (sym (drop-cons bytes read 0 h))
+      ∙ r.finds
+
   -- the next state
   next_comes : t ≡ run_state Start (take (suc read) bytes)
-  next_comes = e ∙ ap (λ (x : State). next_state x (get_or bytes read 0)) k.comes ∙ sym (run_more Start bytes read h)
+  next_comes = e ∙ ap (λ (x : State). next_state x (get_or bytes read 0)) r.comes ∙ sym (run_more Start bytes read h)
 
   -- the next counts
-  next_integers : integers_from Start (take (suc read) bytes) ≡ integer + counted (integer_hash t) 0
+  next_integers : integers_from Start (take (suc read) bytes) ≡ scanned.integer + counted (integer_hash t) 0
   next_integers =
       integers_more Start bytes read h
       ∙ ap (λ (x : State). integers_from Start (take read bytes) + counted (integer_hash x) 0) (sym next_comes)
-      ∙ ap (λ (n : ℕ). n + counted (integer_hash t) 0) (sym k.integers)
+      ∙ ap (λ (n : ℕ). n + counted (integer_hash t) 0) (sym r.integers)
 
-  next_fractions : fractions_from Start (take (suc read) bytes) ≡ fraction + counted (fraction_hash t) 0
+  next_fractions : fractions_from Start (take (suc read) bytes) ≡ scanned.fraction + counted (fraction_hash t) 0
   next_fractions =
       fractions_more Start bytes read h
       ∙ ap (λ (x : State). fractions_from Start (take read bytes) + counted (fraction_hash x) 0) (sym next_comes)
-      ∙ ap (λ (n : ℕ). n + counted (fraction_hash t) 0) (sym k.fractions)
+      ∙ ap (λ (n : ℕ). n + counted (fraction_hash t) 0) (sym r.fractions)
 
-  -- a field ends here
-  kept_field : {i f : ℕ} {x : Bool} → i ≡ counted (integer_hash t) 0 → f ≡ counted (fraction_hash t) 0 → x ≡ is_exponential t
-      → Kept bytes (suc read) t (suc read) (integer + i) (fraction + f) x
-  kept_field {i} {f} {x} p q z =
-      let many : integer + i ≡ integers_from Start (take (suc read) bytes) = omega (arith, next_integers) in
-      let rest : fraction + f ≡ fractions_from Start (take (suc read) bytes) = omega (arith, next_fractions) in
-      record {
-        few = omega (arith, hash_once t p q, k.few);
+  -- where a field ends here
+  pub scanning_field : {i f : ℕ} {x : Bool} → is_field_state t ≡ true → i ≡ counted (integer_hash t) 0 → f ≡ counted (fraction_hash t) 0
+      → x ≡ is_exponential t
+      → Scanning bytes (record { length = read + 1; integer = scanned.integer + i; fraction = scanned.fraction + f; exponential = x }) t (read + 1)
+  scanning_field {i} {f} {x} w p q z =
+      let many : scanned.integer + i ≡ integers_from Start (take (suc read) bytes) = omega (arith, next_integers) in
+      let rest : scanned.fraction + f ≡ fractions_from Start (take (suc read) bytes) = omega (arith, next_fractions) in
+      rw (add-one read)
+      (record {
+        finds = rw w at next_finds;
+        few = omega (arith, hash_once t p q, r.few);
         comes = next_comes;
         integers = many;
         fractions = rest;
         own_integers = many;
         own_fractions = rest;
         kind = z ∙ ap is_exponential next_comes;
-      }
-
-  -- none does
-  kept_none : is_field_state t ≡ false → Kept bytes (suc read) t longest integer fraction exponential
-  kept_none z =
-      record {
-        few = omega (arith, k.few);
-        comes = next_comes;
-        integers = omega (arith, next_integers, (hash_field t z).0);
-        fractions = omega (arith, next_fractions, (hash_field t z).1);
-        own_integers = k.own_integers;
-        own_fractions = k.own_fractions;
-        kind = k.kind;
-      }
-
--- The scanner's loop: the longest field so far, with its counts and kind.
-
-pub record Scanning (line : List ℕ) (start : ℕ) (longest integer fraction : ℕ) (exponential : Bool) (state : State) (end : ℕ) : Type 0 where
-  pub searching : Searching line start state longest end
-  pub kept : Kept (drop start line) (end - start) state longest integer fraction exponential
-
--- before the first byte
-pub scanning_starts : (line : List ℕ) (start : ℕ) → Scanning line start 0 0 0 false Start start
-scanning_starts line start =
-    let none : start - start ≡ 0 = omega arith in
-    record { searching = searching_starts line start; kept = rw none (kept_starts (drop start line)) }
-
-module _ {line : List ℕ} {start : ℕ} {s t : State} {longest integer fraction end : ℕ} {exponential : Bool}
-    (r : Scanning line start longest integer fraction exponential s end) (h : end < length line) (e : t ≡ next_state s (get_or line end 0)) where
-  -- the byte is the next of those from the start on
-  same_byte : t ≡ next_state s (get_or (drop start line) (end - start) 0)
-  same_byte =
-      let n : start + (end - start) ≡ end = omega (arith, r.searching.behind) in
-      e ∙ ap (next_state s) (ap (λ (k : ℕ). get_or line k 0) (sym n) ∙ sym (get_or-drop start line (end - start) 0))
-
-  -- so many bytes are left
-  more_bytes : end - start < length (drop start line)
-  more_bytes = omega (arith, r.searching.behind, length-drop start line)
-
-  -- one byte more was read
-  one_more : suc (end - start) ≡ end + 1 - start
-  one_more = omega (arith, r.searching.behind)
-
-  -- where a field ends here
-  pub scanning_field : {i f : ℕ} {x : Bool} → is_field_state t ≡ true → i ≡ counted (integer_hash t) 0 → f ≡ counted (fraction_hash t) 0
-      → x ≡ is_exponential t → Scanning line start (end + 1 - start) (integer + i) (fraction + f) x t (end + 1)
-  scanning_field w p q z =
-      record {
-        searching = searching_field r.searching h e w;
-        kept = rw one_more at (kept_field r.kept more_bytes same_byte p q z);
-      }
+      })
 
   -- where none does
-  pub scanning_none : is_field_state t ≡ false → Scanning line start longest integer fraction exponential t (end + 1)
+  pub scanning_none : is_field_state t ≡ false → Scanning bytes scanned t (read + 1)
   scanning_none w =
-      record {
-        searching = searching_none r.searching h e w;
-        kept = rw one_more at (kept_none r.kept more_bytes same_byte w);
-      }
+      rw (add-one read)
+      (record {
+        finds = rw w at next_finds;
+        few = omega (arith, r.few);
+        comes = next_comes;
+        integers = omega (arith, next_integers, (hash_field t w).0);
+        fractions = omega (arith, next_fractions, (hash_field t w).1);
+        own_integers = r.own_integers;
+        own_fractions = r.own_fractions;
+        kind = r.kind;
+      })
 
 -- the longest field so far is the field
-scanning_found : {line : List ℕ} {start : ℕ} {s : State} {longest integer fraction end : ℕ} {exponential : Bool}
-    → Scanning line start longest integer fraction exponential s end → longest ≡ field_length (drop start line)
-    → record { length = longest; integer = integer; fraction = fraction; exponential = exponential } ≡ scanned_field (drop start line)
+scanning_found : {bytes : List ℕ} {scanned : Scanned} {s : State} {read : ℕ} → Scanning bytes scanned s read → scanned.length ≡ field_length bytes
+    → scanned ≡ scanned_field bytes
 unfolding scanned_field scanned_image
-scanning_found {line} {start} r e =
-    let k = r.kept in
+scanning_found {bytes} r e =
     λ i. record {
       length = e i;
-      integer = (k.own_integers ∙ ap (λ (n : ℕ). integers_from Start (take n (drop start line))) e) i;
-      fraction = (k.own_fractions ∙ ap (λ (n : ℕ). fractions_from Start (take n (drop start line))) e) i;
-      exponential = (k.kind ∙ ap (λ (n : ℕ). is_exponential (run_state Start (take n (drop start line)))) e) i;
+      integer = (r.own_integers ∙ ap (λ (n : ℕ). integers_from Start (take n bytes)) e) i;
+      fraction = (r.own_fractions ∙ ap (λ (n : ℕ). fractions_from Start (take n bytes)) e) i;
+      exponential = (r.kind ∙ ap (λ (n : ℕ). is_exponential (run_state Start (take n bytes))) e) i;
     }
 
 -- where no field begins so
-pub scanning_stops : {line : List ℕ} {start : ℕ} {s t : State} {longest integer fraction end : ℕ} {exponential : Bool}
-    → Scanning line start longest integer fraction exponential s end → end < length line → t ≡ next_state s (get_or line end 0) → is_stopped t ≡ true
-    → record { length = longest; integer = integer; fraction = fraction; exponential = exponential } ≡ scanned_field (drop start line)
-scanning_stops r h e z = scanning_found r (searching_stops r.searching h e z)
+pub scanning_stops : {bytes : List ℕ} {scanned : Scanned} {s t : State} {read : ℕ} → Scanning bytes scanned s read → read < length bytes
+    → t ≡ next_state s (get_or bytes read 0)
+    → is_stopped t ≡ true
+    → scanned ≡ scanned_field bytes
+scanning_stops {bytes} {scanned} {s} {t} {read} r h e z =
+    let u : t ≡ Stopped = is_stopped_lem t z in
+    let next = scanning_none r h e (ap is_field_state u) in
+    let nothing : longest_from t (read + 1) (drop (read + 1) bytes) ≡ 0 =
+    ap (λ (x : State). longest_from x (read + 1) (drop (read + 1) bytes)) u ∙ stopped_none (read + 1) (drop (read + 1) bytes) in
+    scanning_found next (sym (ap (λ (k : ℕ). later k scanned.length) nothing) ∙ next.finds)
 
 -- behind the last byte
-pub scanning_ends : {line : List ℕ} {start : ℕ} {s : State} {longest integer fraction end : ℕ} {exponential : Bool}
-    → Scanning line start longest integer fraction exponential s end → length line ≤ end
-    → record { length = longest; integer = integer; fraction = fraction; exponential = exponential } ≡ scanned_field (drop start line)
-scanning_ends r h = scanning_found r (searching_ends r.searching h)
+pub scanning_ends : {bytes : List ℕ} {scanned : Scanned} {s : State} {read : ℕ} → Scanning bytes scanned s read → length bytes ≤ read
+    → scanned ≡ scanned_field bytes
+unfolding longest_from
+scanning_ends {bytes} {scanned} {s} {read} r h =
+    scanning_found r
+    (sym (ap (λ (l : List ℕ). later (longest_from s read l) scanned.length) (drop_of_length-le bytes h)) ∙ r.finds)
+
+-- a scanned field's length
+pub scanned_length : (bytes : List ℕ) {scanned : Scanned} → scanned ≡ scanned_field bytes → scanned.length ≡ field_length bytes
+unfolding scanned_field
+scanned_length bytes e = ap (λ (s : Scanned). s.length) e

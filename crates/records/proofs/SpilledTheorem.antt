@@ -11,22 +11,22 @@ use lib.Dec.{ltb}
 use lib.ListN.{length, take, drop}
 use lib.Seq.{drop-drop}
 use Rattle.decimal.specs.declared.number.Number.{Number}
-use Rattle.decimal.specs.Answer.{Answer, done, refused, ◌then◌, pick}
+use Rattle.decimal.specs.Answer.{Answer, done, refused, ◌then◌, pick, mapped}
 use Rattle.decimal.specs.Number.{normal}
 use Rattle.decimal.specs.Image.{hashes, scanned_image}
 use Rattle.decimal.specs.Truncation.{Truncated, truncation, Fit}
 use Rattle.decimal.proofs.TruncationLaws.{fit_truncation, truncation_fit}
-use Rattle.decimal.proofs.AnswerLaws.{never_done, then_done, then_last}
+use Rattle.decimal.proofs.AnswerLaws.{never_done, then_done, then_last, mapped_back}
 use Rattle.records.specs.declared.fields.Element.{Element}
 use Rattle.records.specs.declared.fields.Element.TheVariants as element
-use Rattle.records.specs.declared.printing.PrintAnswer.TheVariants as gives
+use Rattle.records.specs.declared.printing.Printed.{Printed}
 use Rattle.records.specs.Scanning.{field_length}
 use Rattle.records.specs.Marks.{document_marks}
 use Rattle.records.specs.Fields.{shown_in, number_marked, number_in, or_field, spilled_by, element_bytes, element_spills, FieldReady}
 use Rattle.codec.specs.Walking.{line_end}
 use Rattle.records.specs.Printing.{literals, first_field, behind_field, has_field, Print, and_then, one_field, print_from}
 use Rattle.records.specs.Printing.{check_fields, check_element, check_elements, check_some, check_counts, printed, room_for, printing}
-use Rattle.records.specs.Printing.{Reached, at_start, after_field, Counts, print_meaning, counts_of}
+use Rattle.records.specs.Printing.{Reached, at_start, after_field, printed_of}
 use Rattle.records.specs.Spilling.{next_part, fields_filled, is_spilled, spilled_among, spilled_elements}
 use Rattle.records.proofs.FieldTheorem.{field_image_lem}
 use Rattle.records.proofs.FieldLaws.{number_refused, number_normal}
@@ -205,15 +205,9 @@ spilled_count_room line es texts room {p} h =
     ap (λ (x : Print). x.spilled) (sym (room_done room b.second)) ∙ spilled_count line es texts b.first
 
 -- Published: and so is the count in the answer of `print`, by its promise.
-pub spilled_count_answer : (line : List ℕ) (es : List Element) (texts : List ℕ) (room size spilled : ℕ)
-    → print_meaning (gives.Printed size spilled) ≡ counts_of (printing line es texts room) → spilled ≡ spilled_elements line es
-unfolding counts_of
-spilled_count_answer line es texts room size spilled h = go (printing line es texts room) refl h
-  where
-    go : (a : Answer Print) → printing line es texts room ≡ a → done (record { size = size; spilled = spilled }) ≡ counts_of a
-        → spilled ≡ spilled_elements line es
-    go (done p) e h =
-        let given : Counts = record { size = length p.bytes; spilled = p.spilled } in
-        let same : ◌≡◌ {A = Counts} (record { size = size; spilled = spilled }) given = cc in
-        ap (λ (c : Counts). c.spilled) same ∙ spilled_count_room line es texts room e
-    go (refused number place) e h = never_done (sym h)
+pub spilled_count_answer : (line : List ℕ) (es : List Element) (texts : List ℕ) (room : ℕ) {p : Printed}
+    → done p ≡ mapped printed_of (printing line es texts room)
+    → p.spilled ≡ spilled_elements line es
+spilled_count_answer line es texts room {p} h =
+    let b = mapped_back printed_of (printing line es texts room) h in
+    ap (λ (x : Printed). x.spilled) b.2 ∙ spilled_count_room line es texts room b.1

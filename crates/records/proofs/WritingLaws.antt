@@ -1,8 +1,8 @@
 -- Laws of bytes and whole numbers written into a buffer. Assumes nothing.
 use borrow.Rule.Slice.PartMut.{put_mid}
 use Prim.Native.Nat.{ℕ, zero, suc, ◌+◌, ◌-◌, ◌*◌, ◌/◌, ◌%◌, ◌^◌, ◌<◌, ◌≤◌}
-use native.Mathlib.Nat.{add-zero, mul_comm, mul-le-mul_right, mod-eq_of_lt}
-use native.Mathlib.Nat.{div-one, div-div-eq-div-mul, div-lt_iff_lt-mul, le-div_iff_mul-le}
+use native.Mathlib.Nat.{mul-le-mul_right, mod-eq_of_lt}
+use native.Mathlib.Nat.{div-one, div-lt_iff_lt-mul, le-div_iff_mul-le}
 use native.Mathlib.Omega.{arith}
 use native.Mathlib.Numerals.{add-one}
 use borrow.Author.Tests.{ne_eqb}
@@ -11,8 +11,9 @@ use mathlib.Core.Logic.{◌⊎◌, inl, inr, ⊎_elim}
 use mathlib.Core.List.{List, [], ◌∷◌, ◌++◌, append-nil, append_assoc}
 use mathlib.Core.Bool.{Bool, true, false}
 use lib.Dec.{eqb}
-use lib.ListN.{length, take, drop, get_or, set, length-append, length-drop, take-append-drop, drop_of_length-le}
-use lib.Seq.{paste, paste-suc, append_snoc, take-set-le, set_split, drop_at, drop-drop, take_all, take-length, length-take-le}
+use lib.ListN.{length, take, drop, get_or, set, length-append, length-drop, drop_of_length-le}
+use lib.Seq.{take-suc-set, drop-length, append_snoc, set_split, drop-drop, take_all, take-length, length-take-le}
+use Rattle.std.proofs.lemmas.List.{drop-set, take-append-le}
 use Rattle.decimal.specs.Answer.{done, pick}
 use Rattle.decimal.specs.Digits.{digits_of, value_of, zeros, Digits}
 use Rattle.decimal.proofs.PowerLaws.{pow10_pos, pow10_suc, pow10_mono}
@@ -20,33 +21,30 @@ use Rattle.decimal.proofs.DigitLaws.{le_or_lt, digits_length, digits_last, digit
 use Rattle.decimal.proofs.DigitLaws.{value_of_digits, value_below, digits_of_value}
 use Rattle.codec.specs.Answers.{stored_in, written}
 use Rattle.codec.specs.Alpha.{zero_byte, digit_bytes}
-use Rattle.codec.proofs.BufferLaws.{written_length, written_next}
+use Rattle.codec.proofs.BufferLaws.{written_length}
 use Rattle.codec.proofs.AlphaLaws.{digit_bytes_length}
 use Rattle.records.specs.Writing.{whole_digits, without_zeros, decimal_text}
 
 -- Bytes written one by one.
 
--- one more byte is written
-pub paste_turn :
-    (text first now : List ℕ) (start k : ℕ) {byte : ℕ}
-    → start + length text ≤ length first
-    → k < length text
-    → now ≡ paste first start text k
-    → byte ≡ get_or text k 0
-    → set now (start + k) byte ≡ paste first start text (k + 1)
-paste_turn text first now start k room h e same =
-    rw (e, same, add-one k) (paste-suc first start text k 0 (omega arith) h)
+-- a byte stored behind those that stand
+pub stored_behind : (now : List ℕ) (j b : ℕ) (rest : List ℕ) → j < length now → take j now ++ b ∷ rest ≡ take (j + 1) (set now j b) ++ rest
+stored_behind now j b rest h =
+    sym (append_snoc (take j now) b rest)
+    ∙ ap (λ (l : List ℕ). l ++ rest) (sym (take-suc-set now j b h))
+    ∙ ap (λ (k : ℕ). take k (set now j b) ++ rest) (sym (add-one j))
+
+-- Bytes written over a whole lent slice.
+
+-- an answer of its length takes the place of all its bytes
+pub stored_all : (s b : List ℕ) → length s ≡ length b → stored_in (done s) b ≡ s
+unfolding stored_in
+stored_all s b e = ap (λ (l : List ℕ). s ++ l) (drop_of_length-le b {i = length s} (omega arith)) ∙ append-nil s
 
 -- Bytes written one behind the other.
 
--- none
-pub written_empty : (b : List ℕ) (start : ℕ) → b ≡ written b start []
-unfolding written
-written_empty b start =
-    sym (ap₂ (λ (l : List ℕ) (k : ℕ). l ++ drop k b) (append-nil (take start b)) (add-zero start) ∙ take-append-drop start b)
-
 -- one byte
-written_byte : (b : List ℕ) (place byte : ℕ) → place < length b → set b place byte ≡ written b place (byte ∷ [])
+pub written_byte : (b : List ℕ) (place byte : ℕ) → place < length b → set b place byte ≡ written b place (byte ∷ [])
 unfolding written
 written_byte b place byte h =
     let e : suc place ≡ place + 1 = omega arith in
@@ -54,23 +52,62 @@ written_byte b place byte h =
     ∙ sym (append_snoc (take place b) byte (drop (suc place) b))
     ∙ ap (λ (k : ℕ). (take place b ++ (byte ∷ [])) ++ drop k b) e
 
-module _
-    (b : List ℕ) (start : ℕ) (s : List ℕ) {now : List ℕ} {place : ℕ}
-    (so_far : now ≡ written b start s)
-    (behind : place ≡ start + length s) where
-  -- the buffer keeps its length
-  pub kept_length : place ≤ length b → length now ≡ length b
-  kept_length h = ap length so_far ∙ written_length b start s (omega arith)
+-- what stands up to their end
+pub written_front : (b : List ℕ) (place : ℕ) (s : List ℕ) → place ≤ length b → take (place + length s) (written b place s) ≡ take place b ++ s
+unfolding written
+written_front b place s h =
+    let front = take place b ++ s in
+    let rest = drop (place + length s) b in
+    let size : place + length s ≡ length front = omega (arith, length-append (take place b) s, length-take-le place b h) in
+    ap (λ (k : ℕ). take k (front ++ rest)) size
+    ∙ take-append-le (length front) front rest (omega arith)
+    ∙ take-length front
 
-  -- the bytes behind those that stand
-  pub next_bytes : (t : List ℕ) → place + length t ≤ length b → written now place t ≡ written b start (s ++ t)
-  next_bytes t room =
-      ap₂ (λ (l : List ℕ) (k : ℕ). written l k t) so_far behind ∙ written_next b start s t (omega arith)
+-- A buffer that is written from its start on: what stands, and what comes behind it, are the whole.
+pub record Coming (now : List ℕ) (out : ℕ) (after whole : List ℕ) : Type 0 where
+  pub inside : out ≤ length now
+  pub joined : take out now ++ after ≡ whole
 
-  -- one byte behind them
-  pub next_byte : (byte : ℕ) → place < length b → set now place byte ≡ written b start (s ++ (byte ∷ []))
-  next_byte byte room =
-      written_byte now place byte (omega (arith, kept_length (omega arith))) ∙ next_bytes (byte ∷ []) (omega arith)
+-- nothing stands
+pub coming_starts : (now whole : List ℕ) → Coming now 0 whole whole
+coming_starts now whole = record { inside = omega arith; joined = refl }
+
+-- together they are as long as the buffer
+pub coming_long : {now : List ℕ} {out : ℕ} {after whole : List ℕ} → Coming now out after whole → length now ≡ length whole → out + length after ≡ length now
+coming_long {now} {out} {after} w long = omega (arith, ap length w.joined, length-append (take out now) after, length-take-le out now w.inside)
+
+module _ (s after : List ℕ) {now : List ℕ} {out : ℕ} {whole : List ℕ} (w : Coming now out (s ++ after) whole) (long : length now ≡ length whole) where
+  -- there is room for what comes first
+  pub coming_room : out + length s ≤ length now
+  coming_room = omega (arith, coming_long w long, length-append s after)
+
+  -- it is written
+  pub coming_bytes : {next : List ℕ} {m : ℕ} → m ≡ length s → next ≡ written now out s → Coming next (out + m) after whole
+  coming_bytes {next} {m} size put =
+      record {
+        inside = omega (arith, size, ap length put, written_length now out s coming_room, coming_room);
+        joined =
+            ap₂ (λ (k : ℕ) (l : List ℕ). take (out + k) l ++ after) size put
+            ∙ ap (λ (l : List ℕ). l ++ after) (written_front now out s w.inside)
+            ∙ append_assoc (take out now) s after
+            ∙ w.joined;
+      }
+
+-- one byte
+pub coming_byte :
+    {now : List ℕ} {out byte : ℕ} {after whole : List ℕ}
+    → Coming now out (byte ∷ after) whole
+    → length now ≡ length whole
+    → Coming (set now out byte) (out + 1) after whole
+coming_byte {now} {out} {byte} {after} w long =
+    let room = coming_room (byte ∷ []) after w long in
+    coming_bytes (byte ∷ []) after w long refl (written_byte now out byte (omega arith))
+
+-- nothing comes
+pub coming_ends : {now : List ℕ} {out : ℕ} {whole : List ℕ} → Coming now out [] whole → length now ≡ length whole → now ≡ whole
+coming_ends {now} {out} w long =
+    let all = sym (append-nil (take out now)) ∙ w.joined in
+    sym (take_all out now (omega (arith, ap length all, length-take-le out now w.inside))) ∙ all
 
 -- Bytes written into a part of a buffer that is lent.
 
@@ -112,10 +149,34 @@ mid_written b place bytes =
     ap (λ (l : List ℕ). take place b ++ (bytes ++ l)) (drop-drop (length bytes) place b)
     ∙ sym (append_assoc (take place b) bytes (drop (place + length bytes) b))
 
--- and so it does where they are copied into it
-pub part_copied : (bytes part : List ℕ) → take (length bytes) bytes ++ drop (length bytes) part ≡ stored_in (done bytes) part
+-- a part of a buffer that is lent is as long as asked
+pub lent_length : (b : List ℕ) (place n : ℕ) → place + n ≤ length b → length (take n (drop place b)) ≡ n
+lent_length b place n h = length-take-le n (drop place b) (omega (arith, length-drop place b))
+
+-- and so are those that a call writes there
+pub lent_written :
+    (b : List ℕ) (place : ℕ) {n : ℕ} (bytes : List ℕ) {lent : List ℕ} → n ≡ length bytes → lent ≡ bytes → put_mid place n b lent ≡ written b place bytes
+lent_written b place bytes {lent} size same = ap₂ (λ (k : ℕ) (l : List ℕ). put_mid place k b l) size same ∙ mid_written b place bytes
+
+-- Three parts that calls write, one behind the other from a buffer's start on, where the buffer is split behind each.
+pub parts_stored :
+    (b first middle last : List ℕ) {f m l : ℕ} {rest foot x y z : List ℕ}
+    → f ≡ length first
+    → m ≡ length middle
+    → l ≡ length last
+    → rest ≡ drop f b
+    → foot ≡ drop m rest
+    → x ≡ first
+    → y ≡ middle
+    → z ≡ last
+    → x ++ (y ++ (z ++ drop l foot)) ≡ stored_in (done (first ++ (middle ++ last))) b
 unfolding stored_in
-part_copied bytes part = ap (λ (l : List ℕ). l ++ drop (length bytes) part) (take-length bytes)
+parts_stored b first middle last {f} {m} {l} {rest} {foot} one two three p q hx hy hz =
+    let size : f + m + l ≡ length (first ++ (middle ++ last)) =
+    omega (arith, length-append first (middle ++ last), length-append middle last) in
+    let behind : drop l foot ≡ drop (length (first ++ (middle ++ last))) b =
+    ap (drop l) (q ∙ ap (drop m) p ∙ drop-drop m f b) ∙ drop-drop l (f + m) b ∙ ap (λ (k : ℕ). drop k b) size in
+    rw (hx, hy, hz, behind) (sym (append_assoc first (middle ++ last) _ ∙ ap (λ (t : List ℕ). first ++ t) (append_assoc middle last _)))
 
 -- Digits without the zeros that they begin with.
 
@@ -172,6 +233,10 @@ unfolding decimal_text
 decimal_few n =
     let ds = digits_of whole_digits n in
     omega (arith, digit_bytes_length (without_zeros ds), kept_few ds, digits_length whole_digits n)
+
+-- and so many bytes are counted at most
+pub counted_few : (n : ℕ) {size : ℕ} → size ≡ length (decimal_text n) → size ≤ whole_digits
+counted_few n e = omega (arith, e, decimal_few n)
 
 -- a number of at most k + 1 digits is written with no others
 decimal_cut : (n k : ℕ) → k < whole_digits → n < 10 ^ suc k → decimal_text n ≡ digit_bytes (without_zeros (digits_of (suc k) n))
@@ -300,56 +365,22 @@ pub known_decimals : KnownDecimals
 unfolding decimal_text without_zeros digits_of digit_bytes
 known_decimals = record { none = refl; ten = refl; columns = refl; records = refl; most = refl }
 
--- The count of digits, one by one: so many are counted, and the rest is the number without them.
+-- The count of digits: one more than those of the power of ten that the number reaches.
 
-pub record Counted (value count rest : ℕ) : Type 0 where
-  pub others : ℕ
-  pub counted : count ≡ suc others
-  pub few : others < whole_digits
-  pub fills : Fills value others
-  pub left : rest ≡ value / 10 ^ suc others
-
--- one digit is counted
-pub count_starts : (value : ℕ) → Counted value 1 (value / 10)
+pub digits_counted :
+    (value others : ℕ) → value < 10 ^ whole_digits → 10 ^ others ≤ value → value < 10 * 10 ^ others → others + 1 ≡ length (decimal_text value)
 unfolding Fills
-count_starts value = record { others = zero; counted = refl; few = omega arith; fills = inl refl; left = refl }
+digits_counted value others below low high =
+    let under : value < 10 ^ suc others = omega (arith, pow10_suc others) in
+    add-one others
+    ∙ sym
+    (ap length (decimal_filled value others (few_places value others below low) under (inr low))
+    ∙ digit_bytes_length (digits_of (suc others) value)
+    ∙ digits_length (suc others) value)
 
-module _ (value count rest : ℕ) (below : value < 10 ^ whole_digits) (c : Counted value count rest) where
-  -- what is left begins with another
-  count_filled : 0 < rest → 10 ^ count ≤ value
-  count_filled more =
-      let some : 1 ≤ value / 10 ^ suc c.others = omega (arith, c.left) in
-      let low = (le-div_iff_mul-le (pow10_pos (suc c.others))).0 some in
-      omega (arith, ap (λ (k : ℕ). 10 ^ k) c.counted)
-
-  -- so that fewer than 20 are counted
-  pub count_few : 0 < rest → count < whole_digits
-  count_few more = few_places value count below (count_filled more)
-
-  -- one digit more is counted
-  pub count_turns : 0 < rest → Counted value (count + 1) (rest / 10)
-  unfolding Fills
-  count_turns more =
-      let p : ℕ = 10 ^ suc c.others in
-      let next : p * 10 ≡ 10 ^ suc count = mul_comm p 10 ∙ ap (λ (k : ℕ). 10 * 10 ^ k) (sym c.counted) ∙ sym (pow10_suc count) in
-      record {
-        others = count;
-        counted = add-one count;
-        few = count_few more;
-        fills = inr (count_filled more);
-        left = ap (λ (m : ℕ). m / 10) c.left ∙ div-div-eq-div-mul value p 10 ∙ ap (λ (m : ℕ). value / m) next;
-      }
-
-  -- nothing is left: all are counted
-  pub count_ends : rest ≤ 0 → count ≡ length (decimal_text value)
-  count_ends none =
-      let k = c.others in
-      let under : value < 1 * 10 ^ suc k = (div-lt_iff_lt-mul (pow10_pos (suc k))).0 (omega (arith, c.left)) in
-      c.counted
-      ∙ sym
-      (ap length (decimal_filled value k c.few (omega arith) c.fills)
-      ∙ digit_bytes_length (digits_of (suc k) value)
-      ∙ digits_length (suc k) value)
+-- the number that reaches none has one digit
+pub none_counted : (value : ℕ) → value ≡ 0 → 1 ≡ length (decimal_text value)
+none_counted value e = sym (ap (λ (n : ℕ). length (decimal_text n)) e ∙ ap length known_decimals.none)
 
 -- A number written from its last digit on: the digits to come, written before those that stand, make the whole text.
 
@@ -359,55 +390,34 @@ unfolding digit_bytes
 digit_bytes_append [] ys = refl
 digit_bytes_append (x ∷ xs) ys = ap (λ (l : List ℕ). (zero_byte + x) ∷ l) (digit_bytes_append xs ys)
 
--- bytes written, the last of them first
-pub written_last :
-    (b : List ℕ) (start : ℕ) (s : List ℕ) (byte k : ℕ)
-    → start + suc k ≤ length b
-    → length s ≡ k
-    → written (set b (start + k) byte) start s ≡ written b start (s ++ (byte ∷ []))
-unfolding written
-written_last b start s byte k room long =
-    let i : ℕ = start + k in
-    let now : List ℕ = set b i byte in
-    let front : List ℕ = take start b ++ s in
-    let tail : drop (start + length s) now ≡ byte ∷ drop (suc i) b =
-    ap (λ (m : ℕ). drop (start + m) now) long
-    ∙ ap (drop i) (set_split b i byte (omega arith))
-    ∙ drop_at (take i b) (byte ∷ drop (suc i) b) i (length-take-le i b (omega arith)) in
-    let ends : suc i ≡ start + length (s ++ (byte ∷ [])) = omega (arith, length-append s (byte ∷ [])) in
-    ap₂ (λ (x y : List ℕ). (x ++ s) ++ y) (take-set-le start b i byte (omega arith)) tail
-    ∙ sym (append_snoc front byte (drop (suc i) b))
-    ∙ ap₂ (λ (x y : List ℕ). x ++ y) (append_assoc (take start b) s (byte ∷ [])) (ap (λ (m : ℕ). drop m b) ends)
+-- all digits are to come
+pub decimal_start :
+    (n : ℕ) (target : List ℕ) → n < 10 ^ whole_digits → length target ≡ length (decimal_text n)
+    → digit_bytes (digits_of (length target) n) ++ drop (length target) target ≡ decimal_text n
+decimal_start n target below e =
+    ap₂ (λ (k : ℕ) (l : List ℕ). digit_bytes (digits_of k n) ++ l) e (drop-length target)
+    ∙ append-nil (digit_bytes (digits_of (length (decimal_text n)) n))
+    ∙ sym (decimal_shown n below)
 
-module _ (b : List ℕ) (start : ℕ) where
-  -- all digits are to come
-  pub decimal_start :
-      (n : ℕ) {count : ℕ}
-      → n < 10 ^ whole_digits
-      → count ≡ length (decimal_text n)
-      → written b start (digit_bytes (digits_of count n)) ≡ written b start (decimal_text n)
-  decimal_start n below e =
-      ap (λ (k : ℕ). written b start (digit_bytes (digits_of k n))) e ∙ ap (written b start) (sym (decimal_shown n below))
+-- the last of them is written
+pub decimal_turn :
+    (target : List ℕ) (j rest : ℕ) → 0 < j → j ≤ length target
+    → digit_bytes (digits_of (j - 1) (rest / 10)) ++ drop (j - 1) (set target (j - 1) (zero_byte + rest % 10))
+    ≡ digit_bytes (digits_of j rest) ++ drop j target
+unfolding digit_bytes
+decimal_turn target zero rest more room = absurd (omega arith)
+decimal_turn target (suc j) rest more room =
+    let ds = digits_of j (rest / 10) in
+    let last = zero_byte + rest % 10 in
+    let e : suc j - 1 ≡ j = omega arith in
+    let tail : drop j (set target j last) ≡ last ∷ drop (suc j) target =
+    drop-set target j last (omega arith) ∙ ap (λ (k : ℕ). last ∷ drop k target) (add-one j) in
+    ap (λ (k : ℕ). digit_bytes (digits_of k (rest / 10)) ++ drop k (set target k last)) e
+    ∙ ap (λ (l : List ℕ). digit_bytes ds ++ l) tail
+    ∙ sym (append_snoc (digit_bytes ds) last (drop (suc j) target))
+    ∙ ap (λ (l : List ℕ). l ++ drop (suc j) target) (sym (ap digit_bytes (digits_last j rest) ∙ digit_bytes_append ds (rest % 10 ∷ [])))
 
-  -- the last of them is written
-  pub decimal_turn :
-      (j rest : ℕ)
-      → 0 < j
-      → start + j ≤ length b
-      → written (set b (start + (j - 1)) (zero_byte + rest % 10)) start (digit_bytes (digits_of (j - 1) (rest / 10)))
-      ≡ written b start (digit_bytes (digits_of j rest))
-  unfolding digit_bytes
-  decimal_turn zero rest more room = absurd (omega arith)
-  decimal_turn (suc j) rest more room =
-      let ds = digits_of j (rest / 10) in
-      let last = zero_byte + rest % 10 in
-      let e : suc j - 1 ≡ j = omega arith in
-      ap (λ (k : ℕ). written (set b (start + k) last) start (digit_bytes (digits_of k (rest / 10)))) e
-      ∙ written_last b start (digit_bytes ds) last j room (digit_bytes_length ds ∙ digits_length j (rest / 10))
-      ∙ ap (written b start) (sym (ap digit_bytes (digits_last j rest) ∙ digit_bytes_append ds (rest % 10 ∷ [])))
-
-  -- no digit is to come
-  pub decimal_end : (j rest : ℕ) → j ≤ 0 → written b start (digit_bytes (digits_of j rest)) ≡ b
-  unfolding digit_bytes digits_of
-  decimal_end zero rest none = sym (written_empty b start)
-  decimal_end (suc j) rest none = absurd (omega arith)
+-- no digit is to come
+pub decimal_end : (target text : List ℕ) (j rest : ℕ) → j ≡ 0 → digit_bytes (digits_of j rest) ++ drop j target ≡ text → target ≡ text
+unfolding digit_bytes digits_of
+decimal_end target text j rest e h = sym (ap (λ (k : ℕ). digit_bytes (digits_of k rest) ++ drop k target) e) ∙ h

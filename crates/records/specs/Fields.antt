@@ -101,6 +101,11 @@ pub record FieldReady (field : List ℕ) : Type 0 where
   pub is_field : IsField field parts
   pub fits : hashes (scanned_image field) ≤ precision
 
+-- such a field, and the image that the machine reads in it
+pub record FieldImage (field : List ℕ) (im : Image) : Type 0 where
+  pub ready : FieldReady field
+  pub read : im ≡ scanned_image field
+
 -- Reading back: without its marks, the whole of what is left converted.
 
 unfoldable pub read_marked : Marks → List ℕ → Answer Number
@@ -122,16 +127,10 @@ pub record Fillable (im : Image) (t : Truncation) (fill : Fill) (byte : ℕ) : T
   pub held : Held im t
   pub left : byte ≡ hash_byte → fill.used < hashes im
 
--- what the code knows of a byte that it fills: the digit for a #, the sign, and whether a digit or the point was shown up to and with it
-pub record Filled (im : Image) (t : Truncated) (fill : Fill) (digit : ℕ) (negative shown : Bool) (byte : ℕ) : Type 0 where
-  pub digits : byte ≡ hash_byte → digit ≡ next_digit im t fill
-  pub signed : negative ≡ t.negative
-  pub behind : shown ≡ (fill_next im t fill byte).shown
-
 -- the place of the point in the alpha text under an image
 unfoldable pub point_place : Image → ℕ
 point_place im = sign_count im.sign + im.integer
 
--- bytes with the decimal mark at the place of the point, if the image has one, of a text that stands from a place on
-unfoldable pub point_marked : Marks → Image → ℕ → List ℕ → List ℕ
-point_marked m im start bytes = pick (eqb im.fraction 0) bytes (set bytes (start + point_place im) m.decimal)
+-- a text's bytes with the decimal mark at the place of the point, if the image has one
+unfoldable pub point_marked : Marks → Image → List ℕ → List ℕ
+point_marked m im bytes = pick (eqb im.fraction 0) bytes (set bytes (point_place im) m.decimal)

@@ -6,10 +6,7 @@ use Rattle.codec.specs.Columns.{body_size}
 use Rattle.codec.specs.Contents.{Table, read_contents, read_alone}
 use Rattle.codec.specs.Answers.{within, written}
 use Rattle.codec.specs.Packing.{pack_list}
-use Rattle.records.specs.declared.files.AddAnswer.{AddAnswer}
-use Rattle.records.specs.declared.files.AddAnswer.TheVariants as adds
-use Rattle.records.specs.declared.files.ShowAnswer.{ShowAnswer}
-use Rattle.records.specs.declared.files.ShowAnswer.TheVariants as shows
+use Rattle.std.specs.declared.ops.Range.{Range}
 
 -- "write the contents into a buffer": a contents lent alone, last 6
 unfoldable pub starting_file : List ℕ → ℕ → Answer (List ℕ)
@@ -54,11 +51,6 @@ unfoldable pub written_behind : ℕ → Answer (List ℕ) → List ℕ → List 
 written_behind used (done body) buffer = written buffer used body
 written_behind used (refused number place) buffer = buffer
 
--- each case of the code's answer, in document 01's numbers
-abbrev pub add_meaning : AddAnswer → Answer ℕ
-add_meaning (adds.Added used) = done used
-add_meaning (adds.Refused r) = refused r.number r.place
-
 -- "show record number r (from 0) as the part of the lent file that is its body"
 
 -- a part of a file
@@ -74,9 +66,9 @@ shown file r =
     (done (record { start = table.size + r * body_size table.images; size = body_size table.images }))
     (refused 12 0)
 
-abbrev pub show_meaning : ShowAnswer → Answer Part
-show_meaning (shows.Shown start size) = done (record { start = start; size = size })
-show_meaning (shows.Refused r) = refused r.number r.place
+-- the code's range of a part
+abbrev pub range_of : Part → Range ℕ
+range_of p = record { start = p.start; end = p.start + p.size }
 
 -- the part itself; the empty part where the call refuses
 unfoldable pub part_of : List ℕ → Answer Part → List ℕ

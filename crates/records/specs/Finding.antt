@@ -1,13 +1,10 @@
 -- Document 01, Print lines: the fields of a line from the left, each with its place, its length and its image.
-use Rattle.std.specs.Prelude.{ℕ, zero, suc, pred, ◌+◌, ◌<◌, ◌≤◌, ◌≡◌, List, [], ◌∷◌, false, length, take, drop, eqb}
-use Rattle.decimal.specs.declared.image.Sign.TheVariants.{Unsigned}
-use Rattle.decimal.specs.Answer.{done, pick, check_meaning}
-use Rattle.decimal.specs.Image.{scanned_image}
-use Rattle.codec.specs.Lists.{filled}
+use Rattle.std.specs.Prelude.{◌≡◌, ℕ, zero, suc, pred, ◌+◌, List, [], ◌∷◌, Bool, ◌||◌, take, drop, eqb, ◌==◌}
+use Rattle.decimal.specs.Answer.{pick}
+use Rattle.decimal.specs.Image.{plus_byte, minus_byte, hash_byte, point_byte, scanned_image}
 use Rattle.records.specs.declared.finding.Field.{Field}
-use Rattle.records.specs.declared.finding.Fields.{Fields}
 use Rattle.records.specs.Scanning.{field_length}
-use Rattle.records.specs.Printing.{max_elements, check_fields}
+use Rattle.records.specs.Printing.{max_elements}
 
 -- the field at a place of a line, of the bytes from there on
 unfoldable pub field_of : ℕ → List ℕ → Field
@@ -35,33 +32,10 @@ line_fields line = fields_at line 0
 abbrev pub max_fields : ℕ
 max_fields = max_elements + 1
 
--- what stands behind the last field
-abbrev pub no_field : Field
-no_field =
-    record {
-      start = 0;
-      length = 0;
-      image = record { sign = Unsigned; integer = 0; fraction = 0; exponential = false };
-    }
+-- the first fields of a line, as many as a print call uses
+pub record Listed (line : List ℕ) (fields : List Field) : Type 0 where
+  pub first : fields ≡ take max_fields (line_fields line)
 
--- What the code's helpers find.
-
--- no field begins with this byte, whatever is behind it
-unfoldable pub LiteralAlways : ℕ → Type 0
-LiteralAlways byte = (behind : List ℕ) → field_length (byte ∷ behind) ≡ 0
-
--- the bytes between two places are literal
-pub record Skipped (line : List ℕ) (from to : ℕ) : Type 0 where
-  pub ahead : from ≤ to
-  pub inside : to ≤ length line
-  pub literal : (k : ℕ) → from ≤ k → k < to → field_length (drop k line) ≡ 0
-
--- the code's fields are the line's: the first ones stand in the array, and all are counted
-pub record Listed (line : List ℕ) (found : Fields) : Type 0 where
-  pub held : found.fields ≡ filled max_fields no_field (line_fields line)
-  pub counted : found.count ≡ length (line_fields line)
-
--- the fields of a line were found: refused as the line is, and else listed
-pub record FieldsFound (line : List ℕ) (found : Fields) : Type 0 where
-  pub answered : check_meaning found.answer ≡ check_fields 0 0 line
-  pub listed : check_fields 0 0 line ≡ done tt → Listed line found
+-- whether a field can begin with a byte: + - # .
+abbrev pub begins_field : ℕ → Bool
+begins_field byte = (byte == plus_byte) || ((byte == minus_byte) || ((byte == hash_byte) || (byte == point_byte)))

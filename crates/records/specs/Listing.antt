@@ -95,7 +95,7 @@ lines_of file = given (read_file file then λ table. file_lines table file)
 -- a contents that was read of a file whose bodies can all be read
 pub record Listed (file : List ℕ) (c : Contents) : Type 0 where
   pub table : Table
-  pub told : c ≡ contents_of (done table)
+  pub told : c ≡ contents_of table
   pub checked : checked_file file ≡ done table
 
 -- images that a contents can have, and a number for each that has an alpha text

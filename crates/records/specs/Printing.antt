@@ -2,15 +2,11 @@
 use Rattle.std.specs.Prelude.{ℕ, zero, suc, pred, ◌+◌, ◌*◌, ◌<◌, ◌≤◌, ◌≡◌, List, [], ◌∷◌, ◌++◌, Bool, ◌&&◌, length, take, drop, ltb, leb, eqb}
 use Rattle.decimal.specs.Answer.{Answer, done, refused, ◌then◌, pick}
 use Rattle.decimal.specs.Digits.{precision}
-use Rattle.decimal.specs.Number.{normal, zero_number}
+use Rattle.decimal.specs.Number.{normal}
 use Rattle.decimal.specs.Image.{hashes, scanned_image}
-use Rattle.codec.specs.Lists.{filled}
 use Rattle.records.specs.declared.fields.Element.{Element}
 use Rattle.records.specs.declared.fields.Element.TheVariants as element
-use Rattle.records.specs.declared.printing.PrintAnswer.{PrintAnswer}
-use Rattle.records.specs.declared.printing.PrintAnswer.TheVariants as gives
-use Rattle.records.specs.declared.printing.ForecastAnswer.{ForecastAnswer}
-use Rattle.records.specs.declared.printing.ForecastAnswer.TheVariants as bound
+use Rattle.records.specs.declared.printing.Printed.{Printed}
 use Rattle.codec.specs.Walking.{line_end}
 use Rattle.records.specs.Scanning.{field_length}
 use Rattle.records.specs.Fields.{element_bytes, element_spills}
@@ -113,30 +109,13 @@ printing line es texts room = printed line es texts then room_for room
 unfoldable pub forecasting : ℕ → ℕ → Answer ℕ
 forecasting count size = check_counts count size then λ _. done ((count + 1) * (size + 1))
 
-abbrev pub forecast_meaning : ForecastAnswer → Answer ℕ
-forecast_meaning (bound.Bytes n) = done n
-forecast_meaning (bound.Refused r) = refused r.number r.place
+-- the code's counts of what is printed: the bytes written and the spilled elements
+abbrev pub printed_of : Print → Printed
+printed_of p = record { bytes = length p.bytes; spilled = p.spilled }
 
--- the list that the code's array and count stand for
-unfoldable pub element_list : List Element → ℕ → List Element
-element_list elements count = filled count (element.Number zero_number) elements
-
--- each case of the code's answer, in document 01's numbers: the bytes written and the spilled count, or the refusal
-pub record Counts : Type 0 where
-  pub size : ℕ
-  pub spilled : ℕ
-
-abbrev pub print_meaning : PrintAnswer → Answer Counts
-print_meaning (gives.Printed size spilled) = done (record { size = size; spilled = spilled })
-print_meaning (gives.Refused r) = refused r.number r.place
-
-unfoldable pub counts_of : Answer Print → Answer Counts
-counts_of (done p) = done (record { size = length p.bytes; spilled = p.spilled })
-counts_of (refused number place) = refused number place
-
-unfoldable pub bytes_of : Answer Print → Answer (List ℕ)
-bytes_of (done p) = done p.bytes
-bytes_of (refused number place) = refused number place
+-- and the bytes
+abbrev pub bytes_of : Print → List ℕ
+bytes_of p = p.bytes
 
 -- What the checks ask and find.
 
@@ -158,10 +137,6 @@ pub data Reached (line : List ℕ) : ℕ → Type 0 where
   after_field : {j k : ℕ} → Reached line j → (field_length (drop j line) ≡ 0 → ⊥) → k ≡ j + field_length (drop j line) → Reached line k
 
 -- What the print loops ask and find.
-
--- what a line prints, where its elements can be printed (13, 3)
-unfoldable pub measured : ℕ → List ℕ → List ℕ → List Element → Answer Print
-measured room texts line es = check_elements room 0 es then λ _. done (print_from texts line line es)
 
 -- a line that can be measured: it has a field, or there are no elements
 pub record LineReady (line : List ℕ) (es : List Element) : Type 0 where

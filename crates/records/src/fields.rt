@@ -1,29 +1,38 @@
 // A number or a text in a field, and reading a field back (document 01: Print lines).
-ghost use Rattle.std.specs.Prelude.{◌≡◌, true, not, ◌&&◌, ◌+◌, ◌<◌, ◌≤◌, ltb, eqb, length, get_or};
-ghost use Rattle.decimal.specs.Answer.{Answer, pick};
+ghost use Rattle.std.specs.Prelude.{◌≡◌, true, not, ◌&&◌, ◌+◌, ◌<◌, ◌≤◌, ltb, eqb, length};
+ghost use Rattle.decimal.specs.Answer.{Answer, meaning, pick};
 ghost use Rattle.decimal.specs.Digits.{precision};
-ghost use Rattle.decimal.specs.Number.{number_meaning};
-ghost use Rattle.decimal.specs.Image.{hash_byte, hashes, scanned_image};
+ghost use Rattle.decimal.specs.Number.{zero_number};
+ghost use Rattle.records.specs.declared.fields.Element.TheVariants.{Number};
+ghost use Rattle.decimal.specs.Image.{hash_byte, hashes};
 ghost use Rattle.decimal.specs.Truncation.{Truncated};
 ghost use Rattle.codec.specs.Lists.{filled};
-ghost use Rattle.codec.specs.Answers.{written};
 ghost use Rattle.codec.specs.Alpha.{blank_byte, text_length};
 ghost use Rattle.codec.specs.Packing.{held_by, Held};
 ghost use Rattle.records.specs.Fields.{next_digit, sign_byte_of, fill_byte, fill_next, fill_bytes, nothing_filled};
-ghost use Rattle.records.specs.Fields.{number_marked, number_in, or_field, spilled_by, element_bytes, FieldReady, read_marked, read_field};
-ghost use Rattle.records.specs.Fields.{Fillable, Filled, hash_count, point_place, point_marked};
+ghost use Rattle.records.specs.Fields.{number_marked, number_in, or_field, spilled_by, element_bytes, FieldImage, read_marked, read_field};
+ghost use Rattle.records.specs.Fields.{Fillable, hash_count, point_place, point_marked};
 ghost use Rattle.records.specs.Printing.{check_element};
 
 use crate::marks::{DOCUMENT_MARKS, Marks, is_dropped, read_byte};
-use crate::writing::write_bytes;
-use codec::{NO_NUMBER, WriteAnswer, convert, write_alpha_under};
-use decimal::{CheckAnswer, Image, Number, NumberAnswer, PRECISION, Sign, Truncation, truncate};
+use arrayvec::ArrayVec;
+use codec::{NO_NUMBER, convert, write_alpha_under};
+use decimal::{Image, Number, PRECISION, Refusal, Sign, Truncation, truncate};
 
 // An element of a line: a number, or a text by start and length into lent bytes.
-#[derive(Clone, Copy)]
+#[derive(Clone, Copy, Debug, PartialEq, Eq, Hash)]
 pub enum Element {
     Number(Number),
     Text(usize, usize),
+}
+
+impl Default for Element {
+    ghost is_default = { λ e. e ≡ Number zero_number };
+
+    // The number zero.
+    fn default() -> Element {
+        Element::Number(Number::ZERO)
+    }
 }
 
 // What was filled of a field: whether a digit or the point was shown, and how many digits were used.
@@ -47,23 +56,21 @@ fn is_suppressed(image: Image, digit: u8, fill: Fill) -> bool
     requires { (hashes image ≤ precision) × (fill.used < hashes image) }
     ensures { result ≡ (not fill.shown && (eqb digit 0 && ltb (fill.used + 1) image.integer)) }
 {
-    if fill.shown {
-        return false;
-    }
-    if digit != 0 {
-        return false;
-    }
-    fill.used + 1 < image.integer as usize
+    !fill.shown && digit == 0 && fill.used + 1 < image.integer as usize
 }
 
 // The byte of a sign in the field.
+#[tactic(auto, unfolding(crate::specs::Fields::sign_byte_of))]
 fn sign_byte(byte: u8, negative: bool) -> u8
     ensures { result ≡ sign_byte_of byte negative }
 {
     if negative {
-        return b'-';
+        b'-'
+    } else if byte == b'+' {
+        b'+'
+    } else {
+        b' '
     }
-    if byte == b'+' { b'+' } else { b' ' }
 }
 
 // What stands for a comma: the thousands mark, or the filling byte where no digit stands before it.
@@ -77,190 +84,124 @@ fn comma_byte(marks: Marks, shown: bool) -> u8
     }
 }
 
-// The digit that fills a byte of the field, 0 where the byte is no #.
-fn digit_for(image: Image, truncation: Truncation, fill: Fill, byte: u8) -> u8
-    requires { Fillable image truncation fill byte }
-    ensures { (byte ≡ hash_byte → result ≡ next_digit image (held_by truncation) fill) × (result < 10) }
-{
-    if byte == b'#' {
-        return next_digit(image, truncation, fill);
-    }
-    0
-}
-
-// What is filled when a byte of the field is done.
-fn fill_next(image: Image, digit: u8, fill: Fill, byte: u8) -> Fill
-    requires { (hashes image ≤ precision) × (byte ≡ hash_byte → fill.used < hashes image) }
-    ensures { (t : Truncated) → (byte ≡ hash_byte → digit ≡ next_digit image t fill) → result ≡ fill_next image t fill byte }
+// The byte printed for a byte of the field, which then counts as filled.
+#[tactic(auto, unfolding(crate::specs::Fields::fill_byte, crate::specs::Fields::fill_next))]
+fn fill_byte(image: Image, truncation: Truncation, marks: Marks, fill: &mut Fill, byte: u8) -> u8
+    requires { Fillable image truncation fill.old byte }
+    ensures printed { result ≡ fill_byte marks image (held_by truncation) fill.old byte }
+    ensures counted { fill.new ≡ fill_next image (held_by truncation) fill.old byte }
 {
     match byte {
-        b'#' => Fill {
-            shown: !is_suppressed(image, digit, fill),
-            used: fill.used + 1,
-        },
-        b'.' => Fill {
-            shown: true,
-            used: fill.used,
-        },
-        _ => fill,
+        b'#' => {
+            let digit = next_digit(image, truncation, *fill);
+            let suppressed = is_suppressed(image, digit, *fill);
+            fill.shown = !suppressed;
+            fill.used += 1;
+            if suppressed {
+                marks.filling
+            } else {
+                b'0' + digit
+            }
+        }
+        b',' => comma_byte(marks, fill.shown),
+        b'.' => {
+            fill.shown = true;
+            marks.decimal
+        }
+        _ => sign_byte(byte, truncation.negative),
     }
 }
 
-// The byte printed for a byte of the field; shown says whether a digit or the point was shown up to and with this byte.
-fn fill_byte(digit: u8, negative: bool, marks: Marks, shown: bool, byte: u8) -> u8
-    requires { digit < 10 }
-    ensures { (image : Image) (t : Truncated) (fill : Fill) → Filled image t fill digit negative shown byte → result ≡ fill_byte marks image t fill byte }
-{
-    match byte {
-        b'#' => { if shown { b'0' + digit } else { marks.filling } }
-        b',' => comma_byte(marks, shown),
-        b'.' => marks.decimal,
-        _ => sign_byte(byte, negative),
-    }
-}
-
-// Writes a number into a fixed-point field, from a place of the buffer on.
-fn write_fixed(
-    field: &[u8],
-    image: Image,
-    truncation: Truncation,
-    marks: Marks,
-    buffer: &mut [u8],
-    at: usize,
-)
-    requires { (Held image truncation) × (hash_count field.now ≤ hashes image) × (at + length field.now ≤ length buffer.old) }
-    ensures { buffer.new ≡ written buffer.old at (fill_bytes marks image (held_by truncation) nothing_filled field.now) }
+// Writes a number into a fixed-point field, in the place of the field's own bytes.
+fn write_fixed(field: &mut [u8], image: Image, truncation: Truncation, marks: Marks)
+    requires { (Held image truncation) × (hash_count field.old ≤ hashes image) }
+    ensures { field.new ≡ fill_bytes marks image (held_by truncation) nothing_filled field.old }
 {
     let mut fill = Fill {
         shown: false,
         used: 0,
     };
-    let mut j = 0;
-    while j < field.len() {
-        let byte = field[j];
-        let digit = digit_for(image, truncation, fill, byte);
-        fill = fill_next(image, digit, fill, byte);
-        buffer[at + j] = fill_byte(digit, truncation.negative, marks, fill.shown, byte);
-        j += 1;
+    for byte in field.iter_mut() {
+        *byte = fill_byte(image, truncation, marks, &mut fill, *byte);
     }
 }
 
 // The place of the point in the alpha text under an image.
+#[tactic(auto, unfolding(crate::specs::Fields::point_place))]
 fn point_place(image: Image) -> usize
     requires { hashes image ≤ precision }
     ensures { result ≡ point_place image }
 {
-    let sign = image.sign;
-    match sign {
+    match image.sign {
         Sign::Unsigned => image.integer as usize,
-        Sign::Plus => 1 + image.integer as usize,
-        Sign::Minus => 1 + image.integer as usize,
+        Sign::Plus | Sign::Minus => 1 + image.integer as usize,
     }
 }
 
-// Puts the decimal mark for the point of the alpha text that stands from a place of the buffer on.
-fn mark_point(image: Image, marks: Marks, buffer: &mut [u8], at: usize)
-    requires { (hashes image ≤ precision) × (at + text_length image ≤ length buffer.old) }
-    ensures { buffer.new ≡ point_marked marks image at buffer.old }
+// Puts the decimal mark for the point of an alpha text.
+#[tactic(auto, using(crate::proofs::MarkLaws::point_inside), unfolding(crate::specs::Fields::point_marked))]
+fn mark_point(image: Image, marks: Marks, text: &mut [u8])
+    requires { (hashes image ≤ precision) × (length text.old ≡ text_length image) }
+    ensures { text.new ≡ point_marked marks image text.old }
 {
-    if image.fraction == 0 {
-        return;
+    if image.fraction != 0 {
+        let place = point_place(image);
+        text[place] = marks.decimal;
     }
-    let place = point_place(image);
-    buffer[at + place] = marks.decimal;
 }
 
-// Writes a spilled field: its own bytes, from a place of the buffer on.
-fn write_spilled(field: &[u8], buffer: &mut [u8], at: usize)
-    requires { at + length field.now ≤ length buffer.old }
-    ensures { buffer.new ≡ written buffer.old at field.now }
+// Writes a number into an exponential field, as alpha text; the field's own bytes stay where it is spilled.
+fn write_exponential(field: &mut [u8], image: Image, number: Number, marks: Marks)
+    requires { (FieldImage field.old image) × (image.exponential ≡ true) }
+    ensures { field.new ≡ or_field field.old (number_marked marks field.old number) }
 {
-    write_bytes(field, buffer, at);
-}
-
-// Writes a number into an exponential field, as alpha text; the field's own bytes where it is spilled.
-fn write_exponential(
-    field: &[u8],
-    image: Image,
-    number: Number,
-    marks: Marks,
-    buffer: &mut [u8],
-    at: usize,
-)
-    requires { (FieldReady field.now) × (image ≡ scanned_image field.now) × (image.exponential ≡ true) × (at + length field.now ≤ length buffer.old) }
-    ensures { buffer.new ≡ written buffer.old at (or_field field.now (number_marked marks field.now number)) }
-{
-    if let WriteAnswer::Refused(_) = write_alpha_under(image, number, &mut buffer[at..]) {
-        write_spilled(field, buffer, at);
-        return;
+    if write_alpha_under(image, number, &mut *field).is_ok() {
+        mark_point(image, marks, field);
     }
-    mark_point(image, marks, buffer, at);
 }
 
-// Writes a number into a field, from a place of the buffer on; the field's own bytes where it is spilled.
-fn write_number(
-    field: &[u8],
-    image: Image,
-    number: Number,
-    marks: Marks,
-    buffer: &mut [u8],
-    at: usize,
-)
-    requires { (FieldReady field.now) × (image ≡ scanned_image field.now) × (at + length field.now ≤ length buffer.old) }
-    ensures { buffer.new ≡ written buffer.old at (or_field field.now (number_marked marks field.now number)) }
+// Writes a number into a field, in the place of the field's own bytes; they stay where it is spilled.
+fn write_number(field: &mut [u8], image: Image, number: Number, marks: Marks)
+    requires { FieldImage field.old image }
+    ensures { field.new ≡ or_field field.old (number_marked marks field.old number) }
 {
     if image.exponential {
-        write_exponential(field, image, number, marks, buffer, at);
+        write_exponential(field, image, number, marks);
         return;
     }
-    let truncation = truncate(image, number, 0);
-    let answer = truncation.answer;
-    if let CheckAnswer::Refused(_) = answer {
-        write_spilled(field, buffer, at);
-        return;
-    }
-    write_fixed(field, image, truncation, marks, buffer, at);
-}
-
-// Byte j of a text, a blank behind its end.
-fn text_byte(text: &[u8], j: usize) -> u8
-    ensures { result ≡ get_or text.now j blank_byte }
-{
-    if j < text.len() { text[j] } else { b' ' }
-}
-
-// Writes a text into a field of some length, cut or filled with blanks.
-fn write_text(text: &[u8], size: usize, buffer: &mut [u8], at: usize)
-    requires { at + size ≤ length buffer.old }
-    ensures { buffer.new ≡ written buffer.old at (filled size blank_byte text.now) }
-{
-    let mut j = 0;
-    while j < size {
-        buffer[at + j] = text_byte(text, j);
-        j += 1;
+    if let Ok(truncation) = truncate(image, number, 0) {
+        write_fixed(field, image, truncation, marks);
     }
 }
 
-// Writes an element into a field, from a place of the buffer on.
+// Writes a text into a field, cut or filled with blanks.
+#[tactic(auto, using(crate::proofs::FieldLaws::filled_parts))]
+fn write_text(text: &[u8], target: &mut [u8])
+    ensures { target.new ≡ filled (length target.old) blank_byte text.now }
+{
+    let kept = text.len().min(target.len());
+    let (front, rest) = target.split_at_mut(kept);
+    front.copy_from_slice(&text[..kept]);
+    rest.fill(b' ');
+}
+
+// Writes what an element prints in a field, as many bytes as the field has.
 pub(crate) fn write_element(
     texts: &[u8],
     field: &[u8],
     image: Image,
     element: Element,
-    buffer: &mut [u8],
-    at: usize,
+    target: &mut [u8],
 )
-    requires { (FieldReady field.now) × (image ≡ scanned_image field.now) × (check_element (length texts.now) 0 element ≡ Answer.done tt) × (at + length field.now ≤ length buffer.old) }
-    ensures { buffer.new ≡ written buffer.old at (element_bytes texts.now field.now element) }
+    requires { (FieldImage field.now image) × (check_element (length texts.now) 0 element ≡ Answer.done tt) × (length target.old ≡ length field.now) }
+    ensures { target.new ≡ element_bytes texts.now field.now element }
 {
     match element {
         Element::Number(number) => {
-            write_number(field, image, number, DOCUMENT_MARKS, buffer, at)
+            target.copy_from_slice(field);
+            write_number(target, image, number, DOCUMENT_MARKS)
         }
-        Element::Text(start, length) => {
-            let end = start + length;
-            write_text(&texts[start..end], field.len(), buffer, at)
-        }
+        Element::Text(start, length) => { write_text(&texts[start..start + length], target) }
     }
 }
 
@@ -269,29 +210,24 @@ const TEXT_ROOM: usize = PRECISION + 6;
 
 // A field read back under marks: blanks, filling bytes and thousands marks dropped, the decimal mark taken for the point, and all that is
 // left converted; refused with 8 or 5.
-fn read_marked(field: &[u8], marks: Marks) -> NumberAnswer
-    ensures { number_meaning result ≡ read_marked marks field.now }
+fn read_marked(field: &[u8], marks: Marks) -> Result<Number, Refusal>
+    ensures { meaning result ≡ read_marked marks field.now }
 {
-    let mut text = [0u8; TEXT_ROOM];
-    let mut kept = 0;
-    let mut j = 0;
-    while j < field.len() {
-        let byte = field[j];
+    let mut kept: ArrayVec<u8, TEXT_ROOM> = ArrayVec::new();
+    for &byte in field {
         if !is_dropped(marks, byte) {
-            if TEXT_ROOM <= kept {
+            if kept.is_full() {
                 return NO_NUMBER;
             }
-            text[kept] = read_byte(marks, byte);
-            kept += 1;
+            kept.push(read_byte(marks, byte));
         }
-        j += 1;
     }
-    convert(&text[..kept])
+    convert(kept.as_slice())
 }
 
 // A field read back: blanks and commas dropped, the whole of what is left converted; refused with 8 or 5.
-pub fn read_field(field: &[u8]) -> NumberAnswer
-    ensures { number_meaning result ≡ read_field field.now }
+pub fn read_field(field: &[u8]) -> Result<Number, Refusal>
+    ensures { meaning result ≡ read_field field.now }
 {
     read_marked(field, DOCUMENT_MARKS)
 }

@@ -1,78 +1,48 @@
 // The fields of a line image, each found once (document 01: Print lines).
-ghost use Rattle.std.specs.Prelude.{◌≡◌, false, [], ◌+◌, ◌<◌, ◌≤◌, length, drop};
+ghost use Rattle.std.specs.Prelude.{◌≡◌, ◌+◌, ◌<◌, ◌≤◌, length, IfOk, position};
+ghost use Rattle.decimal.specs.Answer.{meaning, checked_only};
 ghost use Rattle.decimal.specs.Digits.{precision};
-ghost use Rattle.codec.specs.Lists.{filled};
 ghost use Rattle.records.specs.Scanning.{scanned_field};
-ghost use Rattle.records.specs.Printing.{max_line};
-ghost use Rattle.records.specs.Finding.{max_fields, no_field, LiteralAlways, Skipped, field_of, FieldsFound};
+ghost use Rattle.records.specs.Printing.{max_line, check_fields};
+ghost use Rattle.records.specs.Finding.{begins_field, field_of, Listed};
 
 use crate::printing::ELEMENTS;
 use crate::scanning::{Scanned, scan_field};
-use decimal::{CheckAnswer, Image, PRECISION, Refusal, Sign, TOO_MANY_DIGITS, sign_of};
+use arrayvec::ArrayVec;
+use decimal::{Image, PRECISION, Reason, Refusal, sign_of};
 
 // The most fields of a line that a print call uses: those of its elements, and one that it ends before.
 pub(crate) const FIELDS: usize = ELEMENTS + 1;
 
 // A field of a line: its start, its length and its image.
-#[derive(Clone, Copy)]
+#[derive(Clone, Copy, Default)]
 pub(crate) struct Field {
     pub start: u16,
     pub length: u16,
     pub image: Image,
 }
 
-// What stands in an array of fields behind the last one.
-const UNUSED: Field = Field {
-    start: 0,
-    length: 0,
-    image: Image {
-        sign: Sign::Unsigned,
-        integer: 0,
-        fraction: 0,
-        exponential: false,
-    },
-};
-
-// The first FIELDS fields of a line and the count of all; or why the line is refused, and then the fields mean nothing.
-#[derive(Clone, Copy)]
-pub(crate) struct Fields {
-    pub answer: CheckAnswer,
-    pub fields: [Field; FIELDS],
-    pub count: usize,
-}
-
 // Whether a field can begin with this byte.
 fn begins(byte: u8) -> bool
-    ensures { result ≡ false → LiteralAlways byte }
+    ensures { result ≡ begins_field byte }
 {
-    match byte {
-        b'+' | b'-' | b'#' | b'.' => true,
-        _ => false,
-    }
+    matches!(byte, b'+' | b'-' | b'#' | b'.')
 }
 
-// The first place from a place on whose byte can begin a field; the line's length if there is none.
-fn next_start(line: &[u8], from: usize) -> usize
-    requires { from ≤ length line.now }
-    ensures { Skipped line.now from result }
+// The place of the first byte that can begin a field.
+fn next_start(bytes: &[u8]) -> Option<usize>
+    ensures { result ≡ position begins_field bytes.now }
 {
-    let mut at = from;
-    while at < line.len() {
-        if begins(line[at]) {
-            return at;
-        }
-        at += 1;
-    }
-    at
+    bytes.iter().position(|&byte| begins(byte))
 }
 
-// The field that was scanned at a place.
-fn field_at(line: &[u8], at: usize, scanned: Scanned) -> Field
-    requires { (at + scanned.length ≤ length line.now) × (length line.now ≤ max_line) × (scanned ≡ scanned_field (drop at line.now)) × (0 < scanned.length) × (scanned.integer + scanned.fraction ≤ precision) }
-    ensures { result ≡ field_of at (drop at line.now) }
+// The field that was scanned of the bytes from a place on.
+fn field_at(bytes: &[u8], at: usize, scanned: Scanned) -> Field
+    requires { (at + length bytes.now ≤ max_line) × (scanned ≡ scanned_field bytes.now) × (0 < scanned.length) × (scanned.integer + scanned.fraction ≤ precision) }
+    ensures { result ≡ field_of at bytes.now }
 {
     let image = Image {
-        sign: sign_of(line[at]),
+        sign: sign_of(bytes[0]),
         integer: scanned.integer as u8,
         fraction: scanned.fraction as u8,
         exponential: scanned.exponential,
@@ -84,47 +54,34 @@ fn field_at(line: &[u8], at: usize, scanned: Scanned) -> Field
     }
 }
 
-// An array of fields with none in it yet.
-fn no_fields() -> [Field; FIELDS]
-    ensures { result ≡ filled max_fields no_field [] }
-{
-    [UNUSED; FIELDS]
-}
-
-// The fields of a line from the left; refused with 2 and the field where one has more than PRECISION # signs.
-pub(crate) fn find_fields(line: &[u8]) -> Fields
+// The first FIELDS fields of a line; refused with 2 and the field where one of all has more than PRECISION # signs.
+pub(crate) fn find_fields(line: &[u8]) -> Result<ArrayVec<Field, FIELDS>, Refusal>
     requires { length line.now ≤ max_line }
-    ensures { FieldsFound line.now result }
+    ensures listed { IfOk result (λ fields. Listed line.now fields.items) }
+    ensures answer { checked_only (meaning result) ≡ check_fields 0 0 line.now }
 {
-    let mut fields = no_fields();
+    let mut fields = ArrayVec::new();
     let mut count = 0;
     let mut at = 0;
-    while at < line.len() {
-        at = next_start(line, at);
-        let scanned = scan_field(line, at);
+    while let Some(skipped) = next_start(&line[at..]) {
+        at += skipped;
+        let bytes = &line[at..];
+        let scanned = scan_field(bytes);
         if scanned.length == 0 {
             at += 1;
         } else {
             if PRECISION < scanned.integer + scanned.fraction {
-                return Fields {
-                    answer: CheckAnswer::Refused(Refusal {
-                        number: TOO_MANY_DIGITS,
-                        place: count,
-                    }),
-                    fields,
-                    count,
-                };
+                return Err(Refusal {
+                    reason: Reason::TooManyDigits,
+                    place: count,
+                });
             }
-            if count < FIELDS {
-                fields[count] = field_at(line, at, scanned);
+            if !fields.is_full() {
+                fields.push(field_at(bytes, at, scanned));
             }
             count += 1;
             at += scanned.length;
         }
     }
-    Fields {
-        answer: CheckAnswer::Fine,
-        fields,
-        count,
-    }
+    Ok(fields)
 }

@@ -11,11 +11,7 @@ mod scanning;
 mod writing;
 
 pub use fields::{Element, read_field};
-pub use files::{
-    AddAnswer, NO_RECORD, ShowAnswer, add, read_file, show, shown_body, write_contents,
-};
+pub use files::{add, read_file, show, shown_body, write_contents};
 pub use listing::{FILE_LENGTH, REPORT_LENGTH, list, report, report_length};
-pub use printing::{
-    ELEMENTS, ForecastAnswer, LINE_LENGTH, NO_FIELD, PrintAnswer, TEXT_OUTSIDE, forecast, print,
-};
+pub use printing::{ELEMENTS, LINE_LENGTH, Printed, forecast, print};
 pub use scanning::scan;

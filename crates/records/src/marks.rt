@@ -21,27 +21,23 @@ pub(crate) const DOCUMENT_MARKS: Marks = Marks {
 const NO_TEXT_BYTE: u8 = 0;
 
 // Whether a byte of a field is dropped when the field is read back.
+#[tactic(auto, unfolding(crate::specs::Marks::is_dropped))]
 pub(crate) fn is_dropped(marks: Marks, byte: u8) -> bool
     ensures { result ≡ is_dropped marks byte }
 {
-    if byte == b' ' {
-        return true;
-    }
-    if byte == marks.filling {
-        return true;
-    }
-    byte == marks.thousands
+    byte == b' ' || byte == marks.filling || byte == marks.thousands
 }
 
 // What any other byte is read as: the decimal mark as the point, and a point that is no mark as no part of a text number.
+#[tactic(auto, unfolding(crate::specs::Marks::read_byte))]
 pub(crate) fn read_byte(marks: Marks, byte: u8) -> u8
     ensures { result ≡ read_byte marks byte }
 {
     if byte == marks.decimal {
-        return b'.';
+        b'.'
+    } else if byte == b'.' {
+        NO_TEXT_BYTE
+    } else {
+        byte
     }
-    if byte == b'.' {
-        return NO_TEXT_BYTE;
-    }
-    byte
 }

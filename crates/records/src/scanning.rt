@@ -9,27 +9,24 @@ use decimal::{State, fraction_hash, integer_hash, is_exponential, next_state};
 fn is_field(state: State) -> bool
     ensures { result ≡ is_field_state (state_of state) }
 {
-    match state {
+    matches!(
+        state,
         State::Integer
-        | State::Grouped
-        | State::Fraction
-        | State::GroupedFraction
-        | State::Exponential => true,
-        _ => false,
-    }
+            | State::Grouped
+            | State::Fraction
+            | State::GroupedFraction
+            | State::Exponential
+    )
 }
 
 // Whether no field begins as the bytes that led to a state.
 fn is_stopped(state: State) -> bool
     ensures { result ≡ is_stopped (state_of state) }
 {
-    match state {
-        State::Stopped => true,
-        _ => false,
-    }
+    matches!(state, State::Stopped)
 }
 
-// The field that starts at a place of a line: its length, the # signs before and behind the point, and whether it is exponential.
+// The field that bytes begin with: its length, the # signs before and behind the point, and whether it is exponential.
 #[derive(Clone, Copy)]
 pub(crate) struct Scanned {
     pub length: usize,
@@ -38,46 +35,40 @@ pub(crate) struct Scanned {
     pub exponential: bool,
 }
 
-// The field that starts at a place of a line, all 0 where the byte there is literal or the place is past the end.
-pub(crate) fn scan_field(line: &[u8], at: usize) -> Scanned
-    ensures { result ≡ scanned_field (drop at line.now) }
+// The field that bytes begin with, all 0 where the first byte is literal or there is none.
+pub(crate) fn scan_field(bytes: &[u8]) -> Scanned
+    ensures { result ≡ scanned_field bytes.now }
 {
-    let mut longest: usize = 0;
-    let mut integer: usize = 0;
-    let mut fraction: usize = 0;
-    let mut exponential = false;
+    let mut scanned = Scanned {
+        length: 0,
+        integer: 0,
+        fraction: 0,
+        exponential: false,
+    };
     let mut state = State::Start;
-    let mut end = at;
-    while end < line.len() {
-        state = next_state(state, line[end]);
-        end += 1;
+    for (index, byte) in bytes.iter().enumerate() {
+        state = next_state(state, *byte);
         if is_stopped(state) {
-            return Scanned {
-                length: longest,
-                integer,
-                fraction,
-                exponential,
-            };
+            return scanned;
         }
         if is_field(state) {
-            longest = end - at;
-            integer += integer_hash(state);
-            fraction += fraction_hash(state);
-            exponential = is_exponential(state);
+            scanned = Scanned {
+                length: index + 1,
+                integer: scanned.integer + integer_hash(state),
+                fraction: scanned.fraction + fraction_hash(state),
+                exponential: is_exponential(state),
+            };
         }
     }
-    Scanned {
-        length: longest,
-        integer,
-        fraction,
-        exponential,
-    }
+    scanned
 }
 
 // The length of the field that starts at a place of a line; 0 if the byte there is literal or the place is past the end.
 pub fn scan(line: &[u8], at: usize) -> usize
     ensures { result ≡ field_length (drop at line.now) }
 {
-    let scanned = scan_field(line, at);
-    scanned.length
+    match line.get(at..) {
+        Some(bytes) => scan_field(bytes).length,
+        None => 0,
+    }
 }

@@ -1,40 +1,27 @@
-// Writing bytes and whole numbers into a buffer.
-ghost use Rattle.std.specs.Prelude.{◌≡◌, ◌+◌, ◌≤◌, length};
-ghost use Rattle.codec.specs.Answers.{written};
+// Writing whole numbers in decimal.
+ghost use Rattle.std.specs.Prelude.{◌≡◌, length};
 ghost use Rattle.records.specs.Writing.{decimal_text};
 
-// Copies bytes into the buffer, from a place on.
-pub(crate) fn write_bytes(source: &[u8], buffer: &mut [u8], at: usize)
-    requires { at + length source.now ≤ length buffer.old }
-    ensures { buffer.new ≡ written buffer.old at source.now }
-{
-    let end = at + source.len();
-    buffer[at..end].copy_from_slice(source);
-}
-
 // The count of digits of a whole number in decimal.
+#[tactic(auto, using(crate::proofs::WritingLaws::digits_counted, crate::proofs::WritingLaws::none_counted))]
 pub(crate) fn decimal_length(value: usize) -> usize
     ensures { result ≡ length (decimal_text value) }
 {
-    let mut length = 1;
-    let mut rest = value / 10;
-    while 0 < rest {
-        length += 1;
-        rest /= 10;
+    match (value as u64).checked_ilog10() {
+        Some(others) => others as usize + 1,
+        None => 1,
     }
-    length
 }
 
-// Writes a whole number in decimal, from a place of the buffer on.
-pub(crate) fn write_decimal(value: usize, buffer: &mut [u8], at: usize)
-    requires { at + length (decimal_text value) ≤ length buffer.old }
-    ensures { buffer.new ≡ written buffer.old at (decimal_text value) }
+// Writes a whole number in decimal. The loop goes by places, since a proof knows no byte that a loop over iter_mut().rev() wrote.
+#[tactic(auto, using(crate::proofs::WritingLaws::decimal_start, crate::proofs::WritingLaws::decimal_turn, crate::proofs::WritingLaws::decimal_end))]
+pub(crate) fn write_decimal(value: usize, target: &mut [u8])
+    requires { length target.old ≡ length (decimal_text value) }
+    ensures { target.new ≡ decimal_text value }
 {
     let mut rest = value;
-    let mut j = decimal_length(value);
-    while 0 < j {
-        j -= 1;
-        buffer[at + j] = b'0' + (rest % 10) as u8;
+    for j in (0..target.len()).rev() {
+        target[j] = b'0' + (rest % 10) as u8;
         rest /= 10;
     }
 }

@@ -21,12 +21,11 @@ use Rattle.codec.specs.Contents.{Table}
 use Rattle.codec.specs.Lists.{no_image}
 use Rattle.codec.specs.Order.{UnsignedFixed}
 use Rattle.codec.specs.Unpacking.{unpack_body}
-use Rattle.codec.proofs.ListLaws.{filled_at}
 use Rattle.records.specs.Files.{read_file, record_count, bodies_in, shown_part}
 use Rattle.records.proofs.FileTheorem.{record_at}
-use Rattle.records.proofs.LinesLaws.{records_count}
+use Rattle.records.proofs.BodiesLaws.{records_count}
 use Rattle.rolls.specs.Falling.{fall}
-use Rattle.rolls.specs.Searching.{max_positions, keys_of, keys_in, Search, found, check_count, check_numbers, is_unsigned_fixed, check_kind, check_page, searching, found_of}
+use Rattle.rolls.specs.Searching.{max_positions, keys_of, keys_in, Search, found, check_count, check_numbers, is_unsigned_fixed, check_kind, check_page, searching}
 use Rattle.rolls.specs.Finding.{Finds, HasKey, Askable}
 use Rattle.rolls.proofs.FallTheorem.{fall_exactly}
 use Rattle.rolls.proofs.FindTheorem.{finds}
@@ -154,13 +153,3 @@ search_finds file ps h =
     let a = asked file ps h in
     let ask = a.1 in
     (a.0, ask, subst (λ (s : Search). Finds ps a.0 s) (sym a.2) (finds ps a.0 ask.positions ask.in_order))
-
--- Published: what stands in each place of the code's answer. A position's record, and 0 behind the last position;
-pub found_places : (s : Search) (i d : ℕ) → i < max_positions → get_or (found_of (done s)).records i d ≡ get_or s.records i 0
-unfolding found_of
-found_places s i d l = filled_at 0 max_positions s.records i d l
-
--- 0 in every place on refusal.
-pub refused_places : (number place i d : ℕ) → i < max_positions → get_or (found_of (refused number place)).records i d ≡ 0
-unfolding found_of
-refused_places number place i d l = filled_at 0 max_positions [] i d l

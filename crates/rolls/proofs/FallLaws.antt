@@ -1,18 +1,21 @@
 -- Laws of numbers that fall: what comparing two of them tells, and the loops that look for one below the number before it.
 -- Assumes nothing.
-use Prim.Native.Nat.{ℕ}
-use mathlib.Core.Path.{◌≡◌, refl, ap, sym, ◌∙◌}
-use mathlib.Core.Bool.{Bool, true, false, not, ◌||◌, ◌&&◌}
-use mathlib.Core.List.{List, [], ◌∷◌, ◌++◌, append-nil, append_assoc}
+use Rattle.std.proofs.Common.{◌≡◌, ℕ, zero, suc, ◌<◌, length, get_or, add-one, arith, Bool, true, false, not, ◌||◌, List, [], ◌∷◌, ◌++◌, Option, Some, None, Result, Ok, Err, refl, ap, sym, ◌∙◌, append-nil, append_assoc}
+use Rattle.std.proofs.Math.Bool.{or_assoc, or-false, or-true}
+use Rattle.std.specs.Prelude.{MatchResult, IfSome}
+use Rattle.std.specs.List.{IsAllAdjacentAnswer}
+use Rattle.std.specs.declared.cmp.Ordering.{Ordering}
+use Rattle.std.specs.declared.cmp.Ordering.TheVariants.{Less, Equal, Greater}
+use Rattle.std.specs.Ordering.{is_le}
 use Rattle.decimal.specs.declared.number.Number.{Number}
-use Rattle.decimal.specs.declared.comparison.Order.{Order}
-use Rattle.decimal.specs.Answer.{done, refused}
-use Rattle.decimal.specs.Number.{normal}
-use Rattle.decimal.specs.Comparison.{value_order, comparison, is_at_most}
-use Rattle.decimal.proofs.AnswerLaws.{never_done, done_same}
-use Rattle.decimal.proofs.ComparisonLaws.{compared}
+use Rattle.decimal.specs.declared.refusal.Refusal.{Refusal}
+use Rattle.decimal.specs.Answer.{done, refused, meaning}
+use Rattle.decimal.specs.Number.{normal, zero_number}
+use Rattle.decimal.specs.Comparison.{comparison, is_at_most}
+use Rattle.decimal.proofs.AnswerLaws.{never_done}
+use Rattle.decimal.proofs.ComparisonLaws.{compared, compared_back}
 use Rattle.decimal.proofs.ComparisonTheorem.{order_transitive, order_itself}
-use Rattle.rolls.specs.Falling.{at_most, fall}
+use Rattle.rolls.specs.Falling.{at_most, fall, normal_at_most, is_fallen}
 
 -- Two numbers.
 
@@ -26,99 +29,131 @@ pub at_most_itself : (a : Number) → at_most a a ≡ true
 unfolding at_most
 at_most_itself a = ap is_at_most (order_itself a)
 
-module _ (a b : Number) (h : normal a ≡ true) (g : normal b ≡ true) where
-  -- what an order tells
-  pub ordered : {o : Order} → done o ≡ comparison a b → is_at_most o ≡ at_most a b
-  unfolding at_most
-  ordered {o} e =
-      let same : o ≡ value_order a b = done_same (e ∙ compared a b h g) in
-      ap is_at_most same
+module _ (a b : Number) where
+  -- of two numbers in normal form the first is at most the second, or not
+  pub both_normal : normal a ≡ true → normal b ≡ true → normal_at_most a b ≡ at_most a b
+  unfolding normal_at_most
+  both_normal h g = rw (h, g)
 
-  -- numbers in normal form have an order
-  pub never_refused : {B : Type 0} {number place : ℕ} → refused number place ≡ comparison a b → B
-  never_refused e = never_done (e ∙ compared a b h g)
+  -- two that have an order are in normal form
+  pub ordered : {o : Ordering} → done o ≡ comparison a b → is_le o ≡ normal_at_most a b
+  unfolding normal_at_most at_most
+  ordered {o} e = let c = compared_back a b (sym e) in rw (c.0, c.1, c.2) (le o)
+    where
+      le : (o : Ordering) → is_le o ≡ is_at_most o
+      le Less = refl
+      le Equal = refl
+      le Greater = refl
+
+  -- of two that have none one is not
+  pub never_ordered : {number place : ℕ} → refused number place ≡ comparison a b → false ≡ normal_at_most a b
+  unfolding normal_at_most
+  never_ordered {number} {place} e = first (normal a) refl
+    where
+      second : normal a ≡ true → (t : Bool) → normal b ≡ t → false ≡ normal_at_most a b
+      second h true g = never_done (e ∙ compared a b h g)
+      second h false g = rw (h, g)
+
+      first : (s : Bool) → normal a ≡ s → false ≡ normal_at_most a b
+      first true h = second h (normal b) refl
+      first false h = rw h
+
+  -- so what a result tells
+  pub compared_told : (r : Result Ordering Refusal) {t : Bool} → meaning r ≡ comparison a b → MatchResult r (λ o. t ≡ is_le o) (λ _. t ≡ false) → t ≡ normal_at_most a b
+  compared_told (Ok o) e m = m ∙ ordered e
+  compared_told (Err f) e m = m ∙ never_ordered e
 
 -- Looking from the left.
 
 -- the number before those that are left, where there is one
-pub lastly : Bool → Number → List Number
-lastly true last = last ∷ []
-lastly false last = []
-
--- disjunctions in two groups
-or_assoc : (a b c : Bool) → (a || (b || c)) ≡ ((a || b) || c)
-or_assoc true b c = refl
-or_assoc false b c = refl
-
--- a disjunction with false
-or_false : (a : Bool) → (a || false) ≡ a
-or_false true = refl
-or_false false = refl
-
--- a test more that holds, or not
-pub fell : (falls : Bool) {test : Bool} → test ≡ true → true ≡ (falls || test)
-fell falls h = sym (ap (λ (b : Bool). falls || b) h ∙ always falls)
-  where
-    always : (b : Bool) → (b || true) ≡ true
-    always true = refl
-    always false = refl
-
-pub not_fell : (falls : Bool) {test : Bool} → test ≡ false → falls ≡ (falls || test)
-not_fell falls h = sym (ap (λ (b : Bool). falls || b) h ∙ or_false falls)
+pub lastly : Option Number → List Number
+lastly (Some last) = last ∷ []
+lastly None = []
 
 -- numbers that were looked at: whether they fall, and the last of them, say whether they fall with any numbers behind them
-pub record Fallen (ns : List Number) (behind : Bool) (last : Number) (falls : Bool) : Type 0 where
-  pub rest : (others : List Number) → fall (ns ++ others) ≡ (falls || fall (lastly behind last ++ others))
+pub record Fallen (ns : List Number) (last : Option Number) (falls : Bool) : Type 0 where
+  pub rest : (others : List Number) → fall (ns ++ others) ≡ (falls || fall (lastly last ++ others))
+  pub last_normal : IfSome last (λ n. normal n ≡ true)
 
 -- at the start
-pub fallen_starts : (last : Number) → Fallen [] false last false
+pub fallen_starts : Fallen [] None false
 unfolding lastly
-fallen_starts last = record { rest = λ others. refl }
+fallen_starts = record { rest = λ others. refl; last_normal = tt }
 
 -- a number more
 fall_next :
-    (behind : Bool) (last number : Number) (others : List Number)
-    → fall (lastly behind last ++ number ∷ others) ≡ ((behind && not (at_most last number)) || fall (number ∷ others))
-unfolding fall lastly
-fall_next true last number others = refl
-fall_next false last number others = refl
+    (last : Option Number) (number : Number) (others : List Number)
+    → IfSome last (λ n. normal n ≡ true)
+    → normal number ≡ true
+    → fall (lastly last ++ number ∷ others) ≡ (is_fallen last number || fall (number ∷ others))
+unfolding fall lastly is_fallen
+fall_next (Some last) number others h g = ap (λ (b : Bool). not b || fall (number ∷ others)) (sym (both_normal last number h g))
+fall_next None number others h g = refl
 
-module _ {ns : List Number} {behind : Bool} {last : Number} {falls : Bool} (f : Fallen ns behind last falls) where
+module _ {ns : List Number} {last : Option Number} {falls : Bool} (f : Fallen ns last falls) where
   -- with a number more, and others
-  fallen_more :
-      (number : Number) (others : List Number)
-      → fall (ns ++ number ∷ others) ≡ ((falls || (behind && not (at_most last number))) || fall (number ∷ others))
-  fallen_more number others =
-      f.rest (number ∷ others)
-      ∙ ap (λ (b : Bool). falls || b) (fall_next behind last number others)
-      ∙ or_assoc falls (behind && not (at_most last number)) (fall (number ∷ others))
-
-  pub fallen_turns :
-      (number : Number) {more : Bool} → more ≡ (falls || (behind && not (at_most last number))) → Fallen (ns ++ number ∷ []) true number more
+  pub fallen_turns : {number : Number} {more : Bool} → normal number ≡ true → more ≡ (falls || is_fallen last number) → Fallen (ns ++ number ∷ []) (Some number) more
   unfolding lastly
-  fallen_turns number {more} e =
+  fallen_turns {number} {more} h e =
       record {
         rest =
             λ others.
             ap fall (append_assoc ns (number ∷ []) others)
-            ∙ fallen_more number others
+            ∙ f.rest (number ∷ others)
+            ∙ ap (λ (b : Bool). falls || b) (fall_next last number others f.last_normal h)
+            ∙ sym (or_assoc falls (is_fallen last number) (fall (number ∷ others)))
             ∙ ap (λ (b : Bool). b || fall (number ∷ others)) (sym e);
+        last_normal = h;
       }
-
-  -- one that is below the last
-  pub fallen_found : (number : Number) (others : List Number) → true ≡ (behind && not (at_most last number)) → fall (ns ++ number ∷ others) ≡ true
-  fallen_found number others e =
-      fallen_more number others ∙ ap (λ (b : Bool). (falls || b) || fall (number ∷ others)) (sym e) ∙ found falls
-    where
-      found : (b : Bool) → ((b || true) || fall (number ∷ others)) ≡ true
-      found true = refl
-      found false = refl
 
   -- at the end
   pub fallen_ends : falls ≡ fall ns
   unfolding fall lastly
-  fallen_ends = sym (ap fall (sym (append-nil ns)) ∙ f.rest [] ∙ ap (λ (b : Bool). falls || b) (alone behind) ∙ or_false falls)
+  fallen_ends = sym (ap fall (sym (append-nil ns)) ∙ f.rest [] ∙ ap (λ (b : Bool). falls || b) (alone last) ∙ or-false falls)
     where
-      alone : (b : Bool) → fall (lastly b last ++ []) ≡ false
-      alone true = refl
-      alone false = refl
+      alone : (last : Option Number) → fall (lastly last ++ []) ≡ false
+      alone (Some last) = refl
+      alone None = refl
+
+-- Looking at each number and the next.
+
+-- none is below the one before it
+pairs_in_order :
+    (ns : List Number)
+    → ((i : ℕ) → i < length ns → normal (get_or ns i zero_number) ≡ true)
+    → ((k : ℕ) → suc k < length ns → true ≡ normal_at_most (get_or ns k zero_number) (get_or ns (suc k) zero_number))
+    → false ≡ fall ns
+unfolding fall
+pairs_in_order [] n h = refl
+pairs_in_order (a ∷ []) n h = refl
+pairs_in_order (a ∷ (b ∷ ns)) n h =
+    rw (sym (h 0 (omega arith) ∙ both_normal a b (n 0 (omega arith)) (n 1 (omega arith))))
+    (pairs_in_order (b ∷ ns) (λ i l. n (suc i) (omega arith)) (λ k l. h (suc k) (omega arith)))
+
+-- some is
+pair_falls :
+    (ns : List Number)
+    → ((i : ℕ) → i < length ns → normal (get_or ns i zero_number) ≡ true)
+    → (k : ℕ)
+    → suc k < length ns
+    → false ≡ normal_at_most (get_or ns k zero_number) (get_or ns (suc k) zero_number)
+    → true ≡ fall ns
+unfolding fall
+pair_falls [] n k l h = absurd (omega arith)
+pair_falls (a ∷ []) n k l h = absurd (omega arith)
+pair_falls (a ∷ (b ∷ ns)) n zero l h = rw (sym (h ∙ both_normal a b (n 0 (omega arith)) (n 1 (omega arith)))) refl
+pair_falls (a ∷ (b ∷ ns)) n (suc k) l h = sym (or-true (not (at_most a b))) ∙ ap (λ (t : Bool). not (at_most a b) || t) (pair_falls (b ∷ ns) (λ i l. n (suc i) (omega arith)) k (omega arith) h)
+
+-- so whether all pairs are in order tells whether numbers in normal form fall
+pub sorted_told :
+    (ns : List Number)
+    → ((i : ℕ) → i < length ns → normal (get_or ns i zero_number) ≡ true)
+    → (r : Bool)
+    → IsAllAdjacentAnswer (λ a b t. t ≡ normal_at_most a b) ns r
+    → not r ≡ fall ns
+sorted_told ns n true h =
+    pairs_in_order ns n
+    (λ k l. h k zero_number (omega arith) ∙ ap (λ (i : ℕ). normal_at_most (get_or ns k zero_number) (get_or ns i zero_number)) (add-one k))
+sorted_told ns n false h =
+    pair_falls ns n h.0 (omega arith)
+    (h.2 zero_number ∙ ap (λ (i : ℕ). normal_at_most (get_or ns h.0 zero_number) (get_or ns i zero_number)) (add-one h.0))

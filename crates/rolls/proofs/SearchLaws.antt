@@ -1,22 +1,17 @@
 -- Laws of the call that finds positions: its refusals in order, and what it gives. Assumes nothing.
-use Prim.Native.Nat.{ℕ, ◌<◌, ◌≤◌}
-use mathlib.Core.Path.{◌≡◌, refl, ap, ap₂, ◌∙◌}
-use mathlib.Core.Bool.{Bool, true, false}
-use mathlib.Core.List.{List}
-use lib.ListN.{length}
+use Rattle.std.proofs.Common.{◌≡◌, ℕ, ◌<◌, ◌≤◌, Bool, true, false, List, length, refl, ap, ap₂, sym, ◌∙◌}
 use borrow.Author.Tests.{le-leb, lt-leb}
 use Rattle.decimal.specs.declared.image.Image.{Image}
 use Rattle.decimal.specs.declared.number.Number.{Number}
-use Rattle.decimal.specs.Answer.{done, refused, ◌then◌}
-use Rattle.decimal.proofs.AnswerLaws.{never_done, then_last}
+use Rattle.decimal.specs.Answer.{Answer, done, refused, ◌then◌, mapped}
+use Rattle.decimal.proofs.AnswerLaws.{never_done, then_last, mapped_done, mapped_refused, mapped_back, mapped_refused_back}
 use Rattle.codec.specs.Contents.{Table}
-use Rattle.codec.specs.Lists.{filled}
 use Rattle.records.specs.Files.{read_file}
-use Rattle.rolls.specs.declared.searching.Found.{Found}
-use Rattle.rolls.specs.declared.searching.FindAnswer.TheVariants as finds
+use Rattle.rolls.specs.declared.searching.Walked.{Walked}
 use Rattle.rolls.specs.Falling.{fall}
-use Rattle.rolls.specs.Searching.{max_positions, keys_in, walk, found, check_count, check_numbers, check_kind, refuse_where, check_page, searching, found_of}
+use Rattle.rolls.specs.Searching.{max_positions, keys_in, walk, found, check_count, check_numbers, check_kind, refuse_where, check_page, searching, Search, keys_read, found_in, falls_in}
 use Rattle.rolls.proofs.FindTheorem.{walk_firsts}
+use Rattle.rolls.proofs.PassLaws.{keys_same}
 
 -- What a page that is taken tells.
 
@@ -71,14 +66,43 @@ module _ (file : List ℕ) (ps : List Number) where
         unfolding searching check_count ◌then◌
         search_done p = rw (reads, le-leb (length ps) max_positions page, h, p)
 
--- the code's answer where nothing refuses: what the walk gives
-pub found_walked :
-    (ps keys : List Number) {records : List ℕ} {comparisons : ℕ}
-    → fall ps ≡ false
-    → records ≡ filled max_positions 0 (walk 0 ps keys).records
-    → comparisons ≡ (walk 0 ps keys).comparisons
-    → ◌≡◌ {A = Found} (record { answer = finds.Found comparisons; records = records }) (found_of (done (found ps keys)))
-unfolding found_of found
-found_walked ps keys f r c =
-    ap₂ (λ (n : ℕ) (l : List ℕ). record { answer = finds.Found n; records = l }) c
-    (r ∙ ap (filled max_positions 0) (walk_firsts ps keys f))
+-- What the code finds.
+
+-- what the walk gives for positions that do not fall
+found_walked : (ps keys : List Number) → fall ps ≡ false → walk 0 ps keys ≡ found ps keys
+unfolding found
+found_walked ps keys f = ap (λ (l : List ℕ). record { records = l; comparisons = (walk 0 ps keys).comparisons }) (walk_firsts ps keys f)
+
+module _ (file : List ℕ) (ps : List Number) {table : Table} (reads : read_file file ≡ done table) (few : length ps ≤ max_positions) where
+  -- the walk is refused
+  pub walked_bad : {x y : ℕ} → mapped falls_in (refused x y) ≡ mapped fall (keys_read file) → searching file ps ≡ refused x y
+  walked_bad told =
+      search_bad file ps reads few
+      (sym (keys_same file reads) ∙ mapped_refused_back fall (keys_read file) (sym (mapped_refused falls_in refl) ∙ told))
+
+  module _ (w : Walked) (told : mapped falls_in (done w) ≡ mapped fall (keys_read file)) where
+    -- it is not: the keys
+    walked_keys : (keys : List Number) × (keys_read file ≡ done keys) × (w.falls ≡ fall keys)
+    walked_keys = mapped_back fall (keys_read file) (sym (mapped_done falls_in refl) ∙ told)
+
+    module _ {ims : List Image} (e : ims ≡ table.images) where
+      -- the page is refused
+      pub walked_page : {x y : ℕ} → refused x y ≡ check_page ims ps w.falls → searching file ps ≡ refused x y
+      walked_page h =
+          let k = walked_keys in
+          search_page file ps reads few (sym (keys_same file reads) ∙ k.1) (sym (h ∙ ap₂ (λ (l : List Image) (b : Bool). check_page l ps b) e k.2))
+
+      -- nothing is
+      pub walked_done :
+          (check_numbers 0 ps ≡ done tt → mapped found_in (done w) ≡ mapped (walk 0 ps) (keys_read file))
+          → done tt ≡ check_page ims ps w.falls
+          → done (found_in w) ≡ searching file ps
+      walked_done finds h =
+          let k = walked_keys in
+          let fine = sym (h ∙ ap₂ (λ (l : List Image) (b : Bool). check_page l ps b) e k.2) in
+          let taken = page_taken table.images ps (fall k.0) fine in
+          sym (mapped_done found_in refl)
+          ∙ finds taken.normals
+          ∙ mapped_done (walk 0 ps) k.1
+          ∙ ap {B = Answer Search} done (found_walked ps k.0 taken.positions)
+          ∙ sym (search_done file ps reads few (sym (keys_same file reads) ∙ k.1) fine)

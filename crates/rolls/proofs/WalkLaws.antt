@@ -1,17 +1,13 @@
--- Laws of the walk, one comparison after the other, and of the array that its answers stand in. Assumes nothing.
-use Prim.Native.Nat.{ℕ, suc, ◌+◌, ◌<◌, ◌≤◌}
-use mathlib.Core.Path.{◌≡◌, refl, ap, sym, ◌∙◌}
-use mathlib.Core.Bool.{true, false}
-use mathlib.Core.List.{List, [], ◌∷◌, ◌++◌, append_assoc, append-nil}
-use native.Mathlib.Omega.{arith}
-use lib.ListN.{length, drop, get_or, set, length-append, drop_of_length-le}
-use lib.Seq.{drop-cons}
+-- Laws of the walk, one comparison after the other. Assumes nothing.
+use Rattle.std.proofs.Common.{◌≡◌, ℕ, suc, ◌+◌, ◌<◌, ◌≤◌, true, false, List, [], ◌∷◌, ◌++◌, length, drop, get_or, add-one, refl, ap, ap₂, sym, subst, ◌∙◌, arith, drop-cons, append_assoc, append-nil}
+use lib.ListN.{drop_of_length-le}
 use Rattle.decimal.specs.declared.number.Number.{Number}
-use Rattle.decimal.specs.Number.{zero_number}
-use Rattle.codec.specs.Lists.{filled}
-use Rattle.codec.proofs.ListLaws.{filled_set}
-use Rattle.rolls.specs.Falling.{at_most}
-use Rattle.rolls.specs.Searching.{max_positions, Search, giving, comparing, walk}
+use Rattle.decimal.specs.Answer.{done}
+use Rattle.decimal.specs.Number.{zero_number, normal}
+use Rattle.rolls.specs.Falling.{at_most, normal_at_most}
+use Rattle.rolls.specs.Searching.{Search, giving, comparing, walk, check_numbers}
+use Rattle.rolls.proofs.FallLaws.{both_normal}
+use Rattle.rolls.proofs.PageLaws.{all_normal}
 
 -- The steps of the walk.
 
@@ -31,218 +27,134 @@ module _ (r : ℕ) (p : Number) (ps : List Number) where
   unfolding walk
   walk_left = refl
 
--- nothing is compared where no record is left
-pub left_comparisons : (r : ℕ) (ps : List Number) → (walk r ps []).comparisons ≡ 0
-unfolding walk giving
-left_comparisons r [] = refl
-left_comparisons r (p ∷ ps) = left_comparisons r ps
-
 -- nothing is given where no position is left
-none_records : (r : ℕ) (ks : List Number) → (walk r [] ks).records ≡ []
+walk_none : (r s : ℕ) (ks ls : List Number) → walk r [] ks ≡ walk s [] ls
 unfolding walk
-none_records r ks = refl
+walk_none r s ks ls = refl
 
-none_comparisons : (r : ℕ) (ks : List Number) → (walk r [] ks).comparisons ≡ 0
-unfolding walk
-none_comparisons r ks = refl
+-- A walk behind what was found before it.
 
--- The answers in the array.
+abbrev pub joined : List ℕ → ℕ → Search → Search
+joined given compared s = record { records = given ++ s.records; comparisons = compared + s.comparisons }
 
--- one more is set
-given_set :
-    (given : List ℕ) {records : List ℕ} {next : ℕ} (r : ℕ)
-    → length given ≡ next
-    → records ≡ filled max_positions 0 given
-    → next < max_positions
-    → set records next r ≡ filled max_positions 0 (given ++ r ∷ [])
-given_set given {records} {next} r e h few =
-    ap (λ (l : List ℕ). set l next r) h
-    ∙ ap (λ (i : ℕ). set (filled max_positions 0 given) i r) (sym e)
-    ∙ filled_set 0 max_positions given r (omega arith)
+module _ (given : List ℕ) (compared : ℕ) where
+  -- a record given is found before
+  joined_giving : (r : ℕ) (s : Search) → joined (given ++ r ∷ []) compared s ≡ joined given compared (giving r s)
+  unfolding giving
+  joined_giving r s = ap (λ (l : List ℕ). record { records = l; comparisons = compared + s.comparisons }) (append_assoc given (r ∷ []) s.records)
 
--- and they are one more
-given_more : (given : List ℕ) {next : ℕ} (r : ℕ) → length given ≡ next → length (given ++ r ∷ []) ≡ next + 1
-given_more given r e = omega (arith, length-append given (r ∷ []))
+  -- so is a comparison made
+  joined_comparing : (s : Search) → joined given (compared + 1) s ≡ joined given compared (comparing s)
+  unfolding comparing
+  joined_comparing s = ap (λ (n : ℕ). record { records = given ++ s.records; comparisons = n }) (omega arith)
 
--- The walk over the keys that were read: what was given, and what the walk over the front and any others gives, is the whole.
-pub record Walking (ps ks front : List Number) (next r comparisons : ℕ) (records : List ℕ) : Type 0 where
-  pub given : List ℕ
-  pub settled : length given ≡ next
-  pub holds : records ≡ filled max_positions 0 given
-  pub answers : (others : List Number) → given ++ (walk r (drop next ps) (front ++ others)).records ≡ (walk 0 ps (ks ++ (front ++ others))).records
-  pub counted :
-      (others : List Number)
-      → comparisons + (walk r (drop next ps) (front ++ others)).comparisons ≡ (walk 0 ps (ks ++ (front ++ others))).comparisons
+  -- nothing behind it
+  joined_none : (r : ℕ) (ks : List Number) → joined given compared (walk r [] ks) ≡ record { records = given; comparisons = compared }
+  unfolding walk
+  joined_none r ks = ap₂ (λ (l : List ℕ) (n : ℕ). record { records = l; comparisons = n }) (append-nil given) (omega arith)
+
+-- nothing before it
+joined_first : (s : Search) → joined [] 0 s ≡ s
+joined_first s = ap (λ (n : ℕ). record { records = s.records; comparisons = n }) (omega arith)
+
+-- The walk over the keys that were read: what was found, and what the walk over the front and any others finds for the positions left, is
+-- the whole.
+pub record Walking (ps ks front left : List Number) (r compared : ℕ) (given : List ℕ) : Type 0 where
+  pub whole : (others : List Number) → joined given compared (walk r left (front ++ others)) ≡ walk 0 ps (ks ++ (front ++ others))
+  pub normals : (i : ℕ) → i < length left → normal (get_or left i zero_number) ≡ true
 
 -- at the start
-pub walking_starts : (ps : List Number) {records : List ℕ} → records ≡ filled max_positions 0 [] → Walking ps [] [] 0 0 0 records
-walking_starts ps h = record { given = []; settled = refl; holds = h; answers = λ others. refl; counted = λ others. omega arith }
+pub walking_starts : (ps : List Number) → check_numbers 0 ps ≡ done tt → Walking ps [] [] ps 0 0 []
+walking_starts ps h = record { whole = λ others. joined_first (walk 0 ps others); normals = all_normal ps h }
+
+-- the same walk in other words
+pub walking_same :
+    {ps ks front left left_now : List Number} {r compared compared_now : ℕ} {given given_now : List ℕ}
+    → left_now ≡ left
+    → compared_now ≡ compared
+    → given_now ≡ given
+    → Walking ps ks front left r compared given
+    → Walking ps ks front left_now r compared_now given_now
+walking_same {front = front} {r = r} l n g w =
+    record {
+      whole = λ others. (λ i. joined (g i) (n i) (walk r (l i) (front ++ others))) ∙ w.whole others;
+      normals = subst (λ (x : List Number). (i : ℕ) → i < length x → normal (get_or x i zero_number) ≡ true) (sym l) w.normals;
+    }
 
 -- a key is read
 pub walking_reads :
-    {ps ks : List Number} {next r comparisons : ℕ} {records : List ℕ} (k : Number)
-    → Walking ps ks [] next r comparisons records
-    → Walking ps ks (k ∷ []) next r comparisons records
-walking_reads k w =
-    record {
-      given = w.given;
-      settled = w.settled;
-      holds = w.holds;
-      answers = λ others. w.answers (k ∷ others);
-      counted = λ others. w.counted (k ∷ others);
-    }
+    {ps ks left : List Number} {r compared : ℕ} {given : List ℕ} (k : Number)
+    → Walking ps ks [] left r compared given
+    → Walking ps ks (k ∷ []) left r compared given
+walking_reads k w = record { whole = λ others. w.whole (k ∷ others); normals = w.normals }
 
-module _ {ps ks : List Number} {k : Number} {next r comparisons : ℕ} {records : List ℕ} (w : Walking ps ks (k ∷ []) next r comparisons records) where
-  -- positions are left
-  module _ (more : next < length ps) where
-    -- the current position
-    abbrev position : Number
-    position = get_or ps next zero_number
-
-    -- it and the others
-    positions_left : drop next ps ≡ position ∷ drop (suc next) ps
-    positions_left = drop-cons ps next zero_number more
+module _ {ps ks : List Number} {k : Number} {r compared : ℕ} {given : List ℕ} where
+  module _ {p : Number} {left : List Number} (w : Walking ps ks (k ∷ []) (p ∷ left) r compared given) (n : normal k ≡ true) where
+    -- the test of the current position
+    tested : normal_at_most p k ≡ at_most p k
+    tested = both_normal p k (w.normals 0 (omega arith)) n
 
     -- the record is at least as large: it is the position's
-    pub walking_turns :
-        (few : next < max_positions) → at_most position k ≡ true → Walking ps ks (k ∷ []) (next + 1) r (comparisons + 1) (set records next r)
-    unfolding giving comparing
-    walking_turns few h =
-        let one : suc next ≡ next + 1 = omega arith in
-        let step : (others : List Number) → walk r (drop next ps) (k ∷ others) ≡ comparing (giving r (walk r (drop (next + 1) ps) (k ∷ others))) =
-        λ others.
-        ap (λ (l : List Number). walk r l (k ∷ others)) positions_left
-        ∙ walk_reached r position (drop (suc next) ps) k others h
-        ∙ ap (λ (i : ℕ). comparing (giving r (walk r (drop i ps) (k ∷ others)))) one in
+    pub walking_turns : normal_at_most p k ≡ true → Walking ps ks (k ∷ []) left r (compared + 1) (given ++ r ∷ [])
+    walking_turns h =
         record {
-          given = w.given ++ r ∷ [];
-          settled = given_more w.given r w.settled;
-          holds = given_set w.given r w.settled w.holds few;
-          answers =
+          whole =
               λ others.
-              append_assoc w.given (r ∷ []) (walk r (drop (next + 1) ps) (k ∷ others)).records
-              ∙ ap (λ (s : Search). w.given ++ s.records) (sym (step others))
-              ∙ w.answers others;
-          counted =
-              λ others.
-              omega (arith, ap (λ (s : Search). s.comparisons) (step others), w.counted others);
+              joined_giving given (compared + 1) r (walk r left (k ∷ others))
+              ∙ joined_comparing given compared (giving r (walk r left (k ∷ others)))
+              ∙ ap (joined given compared) (sym (walk_reached r p left k others (sym tested ∙ h)))
+              ∙ w.whole others;
+          normals = λ i l. w.normals (suc i) (omega arith);
         }
 
     -- else the next record
-    pub walking_passes : at_most position k ≡ false → Walking ps (ks ++ k ∷ []) [] next (r + 1) (comparisons + 1) records
-    unfolding comparing
+    pub walking_passes : normal_at_most p k ≡ false → Walking ps (ks ++ k ∷ []) [] (p ∷ left) (r + 1) (compared + 1) given
     walking_passes h =
-        let one : suc r ≡ r + 1 = omega arith in
-        let step : (others : List Number) → walk r (drop next ps) (k ∷ others) ≡ comparing (walk (r + 1) (drop next ps) others) =
-        λ others.
-        ap (λ (l : List Number). walk r l (k ∷ others)) positions_left
-        ∙ walk_passed r position (drop (suc next) ps) k others h
-        ∙ ap (λ (l : List Number). comparing (walk (suc r) l others)) (sym positions_left)
-        ∙ ap (λ (i : ℕ). comparing (walk i (drop next ps) others)) one in
         record {
-          given = w.given;
-          settled = w.settled;
-          holds = w.holds;
-          answers =
+          whole =
               λ others.
-              ap (λ (s : Search). w.given ++ s.records) (sym (step others))
-              ∙ w.answers others
-              ∙ ap (λ (l : List Number). (walk 0 ps l).records) (sym (append_assoc ks (k ∷ []) others));
-          counted =
-              λ others.
-              omega (
-                arith,
-                ap (λ (s : Search). s.comparisons) (step others),
-                w.counted others,
-                ap (λ (l : List Number). (walk 0 ps l).comparisons) (append_assoc ks (k ∷ []) others),
-              );
+              joined_comparing given compared (walk (r + 1) (p ∷ left) others)
+              ∙ ap (λ (i : ℕ). joined given compared (comparing (walk i (p ∷ left) others))) (add-one r)
+              ∙ ap (joined given compared) (sym (walk_passed r p left k others (sym tested ∙ h)))
+              ∙ w.whole others
+              ∙ ap (walk 0 ps) (sym (append_assoc ks (k ∷ []) others));
+          normals = w.normals;
         }
 
   -- no position is left
-  pub walking_over : length ps ≤ next → Walking ps (ks ++ k ∷ []) [] next (r + 1) comparisons records
-  walking_over l =
-      let none = drop_of_length-le ps l in
-      let nothing : (i : ℕ) (xs : List Number) → (walk i (drop next ps) xs).records ≡ [] =
-      λ i xs. ap (λ (l : List Number). (walk i l xs).records) none ∙ none_records i xs in
-      let nowhere : (i : ℕ) (xs : List Number) → (walk i (drop next ps) xs).comparisons ≡ 0 =
-      λ i xs. ap (λ (l : List Number). (walk i l xs).comparisons) none ∙ none_comparisons i xs in
+  pub walking_over : (left : List Number) → length left ≡ 0 → Walking ps ks (k ∷ []) left r compared given → Walking ps (ks ++ k ∷ []) [] left (r + 1) compared given
+  walking_over [] h w =
       record {
-        given = w.given;
-        settled = w.settled;
-        holds = w.holds;
-        answers =
+        whole =
             λ others.
-            ap (λ (l : List ℕ). w.given ++ l) (nothing (r + 1) others ∙ sym (nothing r (k ∷ others)))
-            ∙ w.answers others
-            ∙ ap (λ (l : List Number). (walk 0 ps l).records) (sym (append_assoc ks (k ∷ []) others));
-        counted =
-            λ others.
-            omega (
-              arith,
-              nowhere (r + 1) others,
-              nowhere r (k ∷ others),
-              w.counted others,
-              ap (λ (l : List Number). (walk 0 ps l).comparisons) (append_assoc ks (k ∷ []) others),
-            );
+            ap (joined given compared) (walk_none (r + 1) r others (k ∷ others))
+            ∙ w.whole others
+            ∙ ap (walk 0 ps) (sym (append_assoc ks (k ∷ []) others));
+        normals = w.normals;
       }
+  walking_over (p ∷ left) h w = absurd (omega arith)
 
--- all keys are read
-pub walking_counted :
-    {ps ks : List Number} {next r comparisons : ℕ} {records : List ℕ}
-    → Walking ps ks [] next r comparisons records
-    → comparisons ≡ (walk 0 ps ks).comparisons
-walking_counted {ps} {ks} {next} {r} w =
-    omega (
-      arith,
-      w.counted [],
-      left_comparisons r (drop next ps),
-      ap (λ (l : List Number). (walk 0 ps l).comparisons) (append-nil ks),
-    )
+-- All keys are read: what was found, and what the walk finds for the positions left over from an index on, is the whole.
+pub record Filling (ps ks left : List Number) (r compared : ℕ) (given : List ℕ) (index : ℕ) : Type 0 where
+  pub whole : joined given compared (walk r (drop index left) []) ≡ walk 0 ps ks
 
--- The positions left over: what was given, and what the walk gives them, is the whole.
-pub record Filling (ps : List Number) (r : ℕ) (whole : List ℕ) (next : ℕ) (records : List ℕ) : Type 0 where
-  pub given : List ℕ
-  pub settled : length given ≡ next
-  pub holds : records ≡ filled max_positions 0 given
-  pub answers : given ++ (walk r (drop next ps) []).records ≡ whole
-
--- at the first of them
-pub filling_starts :
-    {ps ks : List Number} {next r comparisons : ℕ} {records : List ℕ}
-    → Walking ps ks [] next r comparisons records
-    → Filling ps r (walk 0 ps ks).records next records
-filling_starts {ps} {ks} w =
-    record {
-      given = w.given;
-      settled = w.settled;
-      holds = w.holds;
-      answers = w.answers [] ∙ ap (λ (l : List Number). (walk 0 ps l).records) (append-nil ks);
-    }
-
-module _ {ps : List Number} {r : ℕ} {whole : List ℕ} {next : ℕ} {records : List ℕ} (f : Filling ps r whole next records) where
+module _ {ps ks left : List Number} {r compared : ℕ} {given : List ℕ} {index : ℕ} (f : Filling ps ks left r compared given index) where
   -- one more
-  pub filling_turns : next < length ps → next < max_positions → Filling ps r whole (next + 1) (set records next r)
-  unfolding giving
-  filling_turns more few =
-      let one : suc next ≡ next + 1 = omega arith in
-      let step : walk r (drop next ps) [] ≡ giving r (walk r (drop (next + 1) ps) []) =
-      ap (λ (l : List Number). walk r l []) (drop-cons ps next zero_number more)
-      ∙ walk_left r (get_or ps next zero_number) (drop (suc next) ps)
-      ∙ ap (λ (i : ℕ). giving r (walk r (drop i ps) [])) one in
+  pub filling_turns : {given_now : List ℕ} → index < length left → given_now ≡ given ++ r ∷ [] → Filling ps ks left r compared given_now (index + 1)
+  filling_turns more g =
       record {
-        given = f.given ++ r ∷ [];
-        settled = given_more f.given r f.settled;
-        holds = given_set f.given r f.settled f.holds few;
-        answers =
-            append_assoc f.given (r ∷ []) (walk r (drop (next + 1) ps) []).records
-            ∙ ap (λ (s : Search). f.given ++ s.records) (sym step)
-            ∙ f.answers;
+        whole =
+            ap (λ (l : List ℕ). joined l compared (walk r (drop (index + 1) left) [])) g
+            ∙ joined_giving given compared r (walk r (drop (index + 1) left) [])
+            ∙ ap (λ (i : ℕ). joined given compared (giving r (walk r (drop i left) []))) (add-one index)
+            ∙ ap (joined given compared)
+            (sym (ap (λ (l : List Number). walk r l []) (drop-cons left index zero_number more) ∙ walk_left r (get_or left index zero_number) (drop (suc index) left)))
+            ∙ f.whole;
       }
 
   -- at the end
-  pub filling_ends : length ps ≤ next → records ≡ filled max_positions 0 whole
+  pub filling_ends : length left ≤ index → record { records = given; comparisons = compared } ≡ walk 0 ps ks
   filling_ends l =
-      let none : (walk r (drop next ps) []).records ≡ [] =
-      ap (λ (x : List Number). (walk r x []).records) (drop_of_length-le ps l) ∙ none_records r [] in
-      f.holds
-      ∙ ap (filled max_positions 0) (sym (append-nil f.given) ∙ ap (λ (x : List ℕ). f.given ++ x) (sym none) ∙ f.answers)
+      sym (joined_none given compared r [])
+      ∙ ap (λ (l : List Number). joined given compared (walk r l [])) (sym (drop_of_length-le left l))
+      ∙ f.whole

@@ -2,27 +2,20 @@
 use Rattle.std.specs.Prelude.{ℕ, suc, ◌<◌, ◌≤◌, ◌≡◌, Bool, true, false, not, ◌&&◌, List, [], ◌∷◌, length, get_or, leb}
 use Rattle.decimal.specs.declared.image.Image.{Image}
 use Rattle.decimal.specs.declared.number.Number.{Number}
-use Rattle.decimal.specs.Answer.{Answer, done, refused, ◌then◌, pick, checked_only, check_meaning}
+use Rattle.decimal.specs.Answer.{Answer, done, refused, ◌then◌, pick}
 use Rattle.decimal.specs.Number.{zero_number, check_number}
 use Rattle.decimal.specs.Truncation.{is_signed}
-use Rattle.codec.specs.declared.contents.Contents.{Contents}
-use Rattle.codec.specs.Lists.{filled, no_image}
-use Rattle.codec.specs.Contents.{Table, contents_of}
+use Rattle.codec.specs.Lists.{no_image}
+use Rattle.codec.specs.Contents.{Table}
 use Rattle.codec.specs.Unpacking.{unpack_body}
 use Rattle.records.specs.Files.{read_file, bodies_in}
-use Rattle.rolls.specs.declared.searching.Positions.{Positions}
 use Rattle.rolls.specs.declared.searching.Found.{Found}
-use Rattle.rolls.specs.declared.searching.FindAnswer.TheVariants as finds
 use Rattle.rolls.specs.declared.searching.Walked.{Walked}
 use Rattle.rolls.specs.Falling.{at_most, fall}
 
 -- "up to 64 positions"
 abbrev pub max_positions : ℕ
 max_positions = 64
-
--- the list that the code's array of positions and their count stand for
-unfoldable pub position_list : Positions → List Number
-position_list positions = filled positions.count zero_number positions.values
 
 -- The key of a record is the number of its first column.
 
@@ -115,26 +108,20 @@ searching file ps =
     (check_count ps then λ _.
     (keys_in table file then λ keys. (check_page table.images ps (fall keys) then λ _. done (found ps keys))))
 
--- the code's answer, of each answer: 0 stands in every place behind the last position, and in every place on refusal
-unfoldable pub found_of : Answer Search → Found
-found_of (done s) = record { answer = finds.Found s.comparisons; records = filled max_positions 0 s.records }
-found_of (refused number place) =
-    record { answer = finds.Refused (record { number = number; place = place }); records = filled max_positions 0 [] }
+-- what the code finds
+abbrev pub search_of : Found → Search
+search_of found = record { records = found.records.items; comparisons = found.comparisons }
 
--- What the code's helpers ask and find.
+-- What the code's helpers find.
 
--- a contents that was read of a file
-pub record HasContents (file : List ℕ) (c : Contents) : Type 0 where
-  pub table : Table
-  pub told : c ≡ contents_of (done table)
-  pub reads : read_file file ≡ done table
+-- the keys of a file's records, refused as the file is
+unfoldable pub keys_read : List ℕ → Answer (List Number)
+keys_read file = read_file file then λ table. keys_in table file
 
--- what reading all records of a file tells: refused as their keys are; whether the keys fall; and, for positions in normal form, the walk
-pub record Walks (file : List ℕ) (table : Table) (ps : List Number) (w : Walked) : Type 0 where
-  pub answers : check_meaning w.answer ≡ checked_only (keys_in table file)
-  pub falls : {keys : List Number} → keys_in table file ≡ done keys → w.falls ≡ fall keys
-  pub walks :
-      {keys : List Number}
-      → keys_in table file ≡ done keys
-      → check_numbers 0 ps ≡ done tt
-      → (w.records ≡ filled max_positions 0 (walk 0 ps keys).records) × (w.comparisons ≡ (walk 0 ps keys).comparisons)
+-- what the walk over all records finds
+abbrev pub found_in : Walked → Search
+found_in walked = search_of walked.found
+
+-- whether the records fall
+abbrev pub falls_in : Walked → Bool
+falls_in walked = walked.falls

@@ -1,30 +1,20 @@
 // Numbers that fall: some number is below the one before it (document 02, (iii)).
-ghost use Rattle.std.specs.Prelude.{◌≡◌, true, false, not, ◌&&◌};
-ghost use Rattle.decimal.specs.Number.{normal};
-ghost use Rattle.rolls.specs.Falling.{at_most};
+ghost use Rattle.std.specs.Prelude.{◌≡◌};
+ghost use Rattle.rolls.specs.Falling.{normal_at_most, is_fallen};
 
-use decimal::{Number, Order, OrderAnswer, compare};
+use decimal::{Number, compare};
 
 // Whether a number is at most another, by value; false where one is not in normal form.
 pub(crate) fn is_at_most(first: Number, second: Number) -> bool
-    ensures { normal first ≡ true → normal second ≡ true → result ≡ at_most first second }
+    ensures { result ≡ normal_at_most first second }
 {
-    match compare(first, second) {
-        OrderAnswer::Refused(_) => false,
-        OrderAnswer::Order(order) => match order {
-            Order::Less => true,
-            Order::Equal => true,
-            Order::Greater => false,
-        },
-    }
+    compare(first, second).is_ok_and(|order| order.is_le())
 }
 
-// Whether a number is below the one before it, where there is one before it.
-pub(crate) fn is_fallen(behind: bool, last: Number, number: Number) -> bool
-    ensures { normal last ≡ true → normal number ≡ true → result ≡ (behind && not (at_most last number)) }
+// Whether a number is below the one before it, where there is one before it; true where one of the two is not in normal form.
+#[tactic(auto, unfolding(crate::specs::Falling::is_fallen))]
+pub(crate) fn is_fallen(last: Option<Number>, number: Number) -> bool
+    ensures { result ≡ is_fallen last number }
 {
-    if behind {
-        return !is_at_most(last, number);
-    }
-    false
+    last.is_some_and(|last| !is_at_most(last, number))
 }

@@ -4,6 +4,4 @@
 mod falling;
 mod searching;
 
-pub use searching::{
-    FindAnswer, Found, POSITIONS, POSITIONS_FALL, Positions, RECORDS_FALL, WRONG_KIND, find,
-};
+pub use searching::{Found, POSITIONS, find};

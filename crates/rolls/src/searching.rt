@@ -1,241 +1,152 @@
 // Finding a page's positions in a file, all in one pass (document 02, (iii)).
-ghost use Rattle.std.specs.Prelude.{◌≡◌, ◌<◌, ◌≤◌};
-ghost use Rattle.decimal.specs.Answer.{Answer, check_meaning};
-ghost use Rattle.codec.specs.Lists.{image_list};
+ghost use Rattle.std.specs.Prelude.{◌≡◌, ◌<◌, ◌≤◌, length};
+ghost use Rattle.decimal.specs.Answer.{done, meaning, mapped};
+ghost use Rattle.codec.specs.Contents.{contents_of};
+ghost use Rattle.records.specs.Files.{read_file};
 ghost use Rattle.rolls.specs.Falling.{fall};
 ghost use Rattle.rolls.specs.Searching.{
   max_positions,
-  position_list,
   is_unsigned_fixed,
   check_numbers,
   check_page,
+  walk,
   searching,
-  found_of,
-  HasContents,
-  Walks,
+  search_of,
+  keys_read,
+  found_in,
+  falls_in,
 };
 
 use crate::falling::{is_at_most, is_fallen};
-use codec::{Contents, Images, WRONG_COUNT, unpack_under};
-use decimal::{CheckAnswer, Image, NOT_NORMAL, Number, Refusal, Sign};
+use arrayvec::ArrayVec;
+use codec::{Contents, unpack_under};
+use decimal::{Image, Number, Reason, Refusal, Sign};
 use records::read_file;
 
 // The most positions of a page.
 pub const POSITIONS: usize = 64;
 
-// Refusal 14: a position is below the one before it.
-pub const POSITIONS_FALL: u8 = 14;
-
-// Refusal 15: a record's first column is below that of the record before it.
-pub const RECORDS_FALL: u8 = 15;
-
-// Refusal 16: the first column is signed or exponential.
-pub const WRONG_KIND: u8 = 16;
-
-// A page's positions: the first count of the values. A count above POSITIONS is a list longer than any page has.
-#[derive(Clone, Copy)]
-pub struct Positions {
-    pub values: [Number; POSITIONS],
-    pub count: usize,
-}
-
-// The count of comparisons made, or why nothing was looked for.
-#[derive(Clone, Copy)]
-pub enum FindAnswer {
-    Found(usize),
-    Refused(Refusal),
-}
-
-// For each position the number of a record, 0 behind the last position. Where the answer is a refusal all are 0.
-#[derive(Clone, Copy)]
+// For each position the number of a record, and the count of comparisons made.
+#[derive(Drop)]
 pub struct Found {
-    pub answer: FindAnswer,
-    pub records: [usize; POSITIONS],
-}
-
-// What reading all records tells: whether they fall, and what the walk over them gives for positions in normal form.
-#[derive(Clone, Copy)]
-pub(crate) struct Walked {
-    pub answer: CheckAnswer,
-    pub falls: bool,
+    pub records: ArrayVec<usize, POSITIONS>,
     pub comparisons: usize,
-    pub records: [usize; POSITIONS],
 }
 
-// A refusal instead of record numbers.
-fn not_found(number: u8, place: usize) -> Found
-    ensures { result ≡ found_of (Answer.refused number place) }
-{
-    Found {
-        answer: FindAnswer::Refused(Refusal { number, place }),
-        records: [0; POSITIONS],
-    }
-}
-
-// The answer of a refused check.
-fn refused(number: u8, place: usize) -> CheckAnswer
-    ensures { check_meaning result ≡ Answer.refused number place }
-{
-    CheckAnswer::Refused(Refusal { number, place })
+// What reading all records tells: what the walk over them finds for positions in normal form, and whether they fall.
+#[derive(Drop)]
+pub(crate) struct Walked {
+    pub found: Found,
+    pub falls: bool,
 }
 
 // Whether all positions are in normal form: refused with 3 and the index of the first that is not.
-fn check_normal(positions: Positions) -> CheckAnswer
-    requires { positions.count ≤ max_positions }
-    ensures { check_meaning result ≡ check_numbers 0 (position_list positions) }
+fn check_normal(positions: &[Number]) -> Result<(), Refusal>
+    ensures { meaning result ≡ check_numbers 0 positions.now }
 {
-    let count = positions.count;
-    let mut index = 0;
-    while index < count {
-        let position = positions.values[index];
-        if !position.is_normal() {
-            return refused(NOT_NORMAL, index);
-        }
-        index += 1;
+    for (index, position) in positions.iter().enumerate() {
+        position.checked(index)?;
     }
-    CheckAnswer::Fine
+    Ok(())
 }
 
 // Whether positions in normal form fall.
-fn positions_fall(positions: Positions) -> bool
-    requires { (positions.count ≤ max_positions) × (check_numbers 0 (position_list positions) ≡ Answer.done tt) }
-    ensures { result ≡ fall (position_list positions) }
+fn positions_fall(positions: &[Number]) -> bool
+    requires { check_numbers 0 positions.now ≡ done tt }
+    ensures { result ≡ fall positions.now }
 {
-    let count = positions.count;
-    let mut last = Number::ZERO;
-    let mut index = 0;
-    while index < count {
-        let position = positions.values[index];
-        if is_fallen(0 < index, last, position) {
-            return true;
-        }
-        last = position;
-        index += 1;
-    }
-    false
+    !positions.is_sorted_by(|first, second| is_at_most(*first, *second))
 }
 
 // Whether an image is unsigned fixed point.
 fn is_unsigned_fixed(image: Image) -> bool
     ensures { result ≡ is_unsigned_fixed image }
 {
-    if image.exponential {
-        return false;
-    }
-    let sign = image.sign;
-    match sign {
-        Sign::Unsigned => true,
-        Sign::Plus => false,
-        Sign::Minus => false,
-    }
+    !image.exponential && image.sign == Sign::Unsigned
 }
 
 // Whether a page can be looked for in records that can be read: refused with 3 and the position's index, then with 16, 14, 15.
-fn check_page(images: Images, positions: Positions, falls: bool) -> CheckAnswer
-    requires { (0 < images.count) × (positions.count ≤ max_positions) }
-    ensures { check_meaning result ≡ check_page (image_list images) (position_list positions) falls }
+fn check_page(images: &[Image], positions: &[Number], falls: bool) -> Result<(), Refusal>
+    requires { 0 < length images.now }
+    ensures { meaning result ≡ check_page images.now positions.now falls }
 {
-    let normal = check_normal(positions);
-    if let CheckAnswer::Refused(_) = normal {
-        return normal;
-    }
-    let image = images.values[0];
-    if !is_unsigned_fixed(image) {
-        return refused(WRONG_KIND, 0);
+    check_normal(positions)?;
+    if !is_unsigned_fixed(images[0]) {
+        return Err(Refusal {
+            reason: Reason::WrongKind,
+            place: 0,
+        });
     }
     if positions_fall(positions) {
-        return refused(POSITIONS_FALL, 0);
+        return Err(Refusal {
+            reason: Reason::PositionsFall,
+            place: 0,
+        });
     }
     if falls {
-        return refused(RECORDS_FALL, 0);
+        return Err(Refusal {
+            reason: Reason::RecordsFall,
+            place: 0,
+        });
     }
-    CheckAnswer::Fine
+    Ok(())
 }
 
 // Reads all records of a file, each once: refused with 7 and the column within the first bad record. Tells whether they fall, and walks:
 // compares the current position with the current record, goes to the next position if the record is at least as large, else to the next
 // record, and ends when either runs out; positions left over take the record count.
-fn walk(file: &[u8], table: Contents, positions: Positions) -> Walked
-    requires { (HasContents file.now table) × (positions.count ≤ max_positions) }
-    ensures { (h : HasContents file.now table) → Walks file.now h.table (position_list positions) result }
+fn walk(file: &[u8], table: &Contents, positions: &[Number]) -> Result<Walked, Refusal>
+    requires { (done table.now ≡ mapped contents_of (read_file file.now)) × (length positions.now ≤ max_positions) }
+    ensures falls { mapped falls_in (meaning result) ≡ mapped fall (keys_read file.now) }
+    ensures found { check_numbers 0 positions.now ≡ done tt → mapped found_in (meaning result) ≡ mapped (walk 0 positions.now) (keys_read file.now) }
 {
-    let images = table.images;
-    let count = positions.count;
-    let mut records = [0usize; POSITIONS];
+    let mut records = ArrayVec::new();
     let mut comparisons = 0;
-    let mut next = 0;
     let mut falls = false;
-    let mut last = Number::ZERO;
+    let mut last = None;
     let mut record = 0;
-    let mut at = table.size;
-    while at < file.len() {
-        let end = at + table.body;
-        let unpacked = unpack_under(images, &file[at..end]);
-        let answer = unpacked.answer;
-        if let CheckAnswer::Refused(_) = answer {
-            return Walked {
-                answer,
-                falls: false,
-                comparisons: 0,
-                records: [0; POSITIONS],
-            };
-        }
-        let numbers = unpacked.numbers;
-        let number = numbers.values[0];
-        if is_fallen(0 < record, last, number) {
-            falls = true;
-        }
-        'settle: while next < count {
+    let mut left = positions;
+    let mut bodies = &file[table.size..];
+    while !bodies.is_empty() {
+        let (body, others) = bodies.split_at(table.body);
+        let numbers = unpack_under(&table.images, body)?;
+        let number = numbers[0];
+        falls |= is_fallen(last, number);
+        'settle: while let Some((position, behind)) = left.split_first() {
             comparisons += 1;
-            let position = positions.values[next];
-            if !is_at_most(position, number) {
+            if !is_at_most(*position, number) {
                 break 'settle;
             }
-            records[next] = record;
-            next += 1;
+            records.push(record);
+            left = behind;
         }
-        last = number;
+        last = Some(number);
         record += 1;
-        at = end;
+        bodies = others;
     }
-    while next < count {
-        records[next] = record;
-        next += 1;
+    for _ in left {
+        records.push(record);
     }
-    Walked {
-        answer: CheckAnswer::Fine,
+    Ok(Walked {
+        found: Found {
+            records,
+            comparisons,
+        },
         falls,
-        comparisons,
-        records,
-    }
+    })
 }
 
 // For each of a page's positions the first record of a file whose first column is at least the position, or the record count.
 // Refused as the file is, with 10 for the count of positions, with 7 and the column within the first bad record, with 3 and the
 // position's index, with 16 where the first column is signed or exponential, with 14 where positions fall, with 15 where records fall.
-pub fn find(file: &[u8], positions: Positions) -> Found
-    ensures { result ≡ found_of (searching file.now (position_list positions)) }
+pub fn find(file: &[u8], positions: &[Number]) -> Result<Found, Refusal>
+    ensures { mapped search_of (meaning result) ≡ searching file.now positions.now }
 {
-    let table = read_file(file);
-    let answer = table.answer;
-    if let CheckAnswer::Refused(refusal) = answer {
-        return not_found(refusal.number, refusal.place);
+    let table = read_file(file)?;
+    if POSITIONS < positions.len() {
+        return Err(Refusal::WRONG_COUNT);
     }
-    if POSITIONS < positions.count {
-        return not_found(WRONG_COUNT, 0);
-    }
-    let walked = walk(file, table, positions);
-    let read = walked.answer;
-    if let CheckAnswer::Refused(refusal) = read {
-        return not_found(refusal.number, refusal.place);
-    }
-    let images = table.images;
-    if let CheckAnswer::Refused(refusal) = check_page(images, positions, walked.falls) {
-        return not_found(refusal.number, refusal.place);
-    }
-    let records = walked.records;
-    Found {
-        answer: FindAnswer::Found(walked.comparisons),
-        records,
-    }
+    let walked = walk(file, &table, positions)?;
+    check_page(&table.images, positions, walked.falls)?;
+    Ok(walked.found)
 }

@@ -1,50 +1,43 @@
 // Rows of images, packed sizes and bodies. Each takes a contents with one column.
 use crate::shown::{
-    ROOM, print_bytes, print_count, print_hexadecimal, print_number, print_raw, print_refusal,
-    print_remainder, print_signed,
+    ROOM, print_count, print_hexadecimal, print_number, print_raw, print_refusal, print_remainder,
+    print_signed, print_text,
 };
-use codec::{Numbers, WriteAnswer};
-use decimal::{CheckAnswer, Number, NumberAnswer};
+use codec::written_part;
+use decimal::{Number, Remainder};
 use std::io;
 use std::io::Write;
 
+// The image of a contents with one column.
+fn image_of(contents: &[u8]) -> &[u8] {
+    contents.get(2..).unwrap_or(&[])
+}
+
 // Writes the image of a contents with one column.
 fn print_image(out: &mut impl Write, contents: &[u8]) -> io::Result<()> {
-    if contents.len() < 2 {
-        return Ok(());
-    }
-    print_raw(out, &contents[2..])
+    print_raw(out, image_of(contents))
 }
 
 // Writes the alpha text of a number under an image.
 fn print_alpha(out: &mut impl Write, image: &[u8], number: Number) -> io::Result<()> {
     let mut buffer = [0u8; ROOM];
-    match codec::write_alpha(image, number, &mut buffer) {
-        WriteAnswer::Refused(refusal) => print_refusal(out, refusal),
-        WriteAnswer::Written(size) => {
-            print_raw(out, b"'")?;
-            print_bytes(out, buffer, size, false)?;
-            print_raw(out, b"'")
-        }
+    let answer = codec::write_alpha(image, number, &mut buffer);
+    match answer {
+        Err(refusal) => print_refusal(out, refusal),
+        Ok(_) => print_text(out, written_part(answer, &buffer)),
     }
-}
-
-// A list of one number.
-fn one_number(number: Number) -> Numbers {
-    let mut values = [Number::ZERO; codec::COLUMNS];
-    values[0] = number;
-    Numbers { values, count: 1 }
 }
 
 // Packs a number under a contents, and writes the body.
 fn print_packed(out: &mut impl Write, contents: &[u8], number: Number) -> io::Result<()> {
     let mut buffer = [0u8; ROOM];
-    match codec::pack(contents, one_number(number), &mut buffer) {
-        WriteAnswer::Refused(refusal) => {
+    let answer = codec::pack(contents, &[number], &mut buffer);
+    match answer {
+        Err(refusal) => {
             print_raw(out, b" ")?;
             print_refusal(out, refusal)
         }
-        WriteAnswer::Written(size) => print_bytes(out, buffer, size, true),
+        Ok(_) => print_hexadecimal(out, written_part(answer, &buffer)),
     }
 }
 
@@ -78,15 +71,11 @@ pub(crate) fn image_row(
     up: u16,
     down: u16,
 ) -> io::Result<()> {
-    if contents.len() < 2 {
-        return Ok(());
-    }
-    let image = &contents[2..];
     print_under(out, contents, negative, whole, up, down)?;
     match Number::from_scaled(negative, whole, up, down, 0) {
-        NumberAnswer::Refused(refusal) => print_refusal(out, refusal)?,
-        NumberAnswer::Number(number) => {
-            print_alpha(out, image, number)?;
+        Err(refusal) => print_refusal(out, refusal)?,
+        Ok(number) => {
+            print_alpha(out, image_of(contents), number)?;
             print_raw(out, b"; body")?;
             print_packed(out, contents, number)?;
         }
@@ -94,26 +83,29 @@ pub(crate) fn image_row(
     print_raw(out, b"\n")
 }
 
+// Writes what is cut off the only number of a list.
+fn print_remainders(out: &mut impl Write, remainders: &[Remainder]) -> io::Result<()> {
+    match remainders {
+        [remainder, ..] => print_remainder(out, *remainder),
+        [] => print_raw(out, b"none"),
+    }
+}
+
 // Packs a number under a contents, and writes the body and what is cut off, or the refusal.
 fn print_cut(out: &mut impl Write, contents: &[u8], number: Number) -> io::Result<()> {
     let mut buffer = [0u8; ROOM];
-    let packed = codec::pack_with_remainders(contents, one_number(number), &mut buffer);
-    let answer = packed.answer;
-    match answer {
-        WriteAnswer::Refused(refusal) => print_refusal(out, refusal)?,
-        WriteAnswer::Written(size) => {
+    match codec::pack_with_remainders(contents, &[number], &mut buffer) {
+        Err(refusal) => {
+            print_refusal(out, refusal)?;
+            print_raw(out, b"; cut off none")
+        }
+        Ok(packed) => {
             print_raw(out, b"body")?;
-            print_bytes(out, buffer, size, true)?;
+            print_hexadecimal(out, written_part(Ok(packed.size), &buffer))?;
+            print_raw(out, b"; cut off ")?;
+            print_remainders(out, &packed.remainders)
         }
     }
-    print_raw(out, b"; cut off ")?;
-    let remainders = packed.remainders;
-    if remainders.count == 0 {
-        print_raw(out, b"none")?;
-        return Ok(());
-    }
-    let remainder = remainders.values[0];
-    print_remainder(out, remainder)
 }
 
 // Writes a row: an image, the number whole * 10^up / 10^down, its body and what is cut off, or the refusal.
@@ -127,8 +119,8 @@ pub(crate) fn cut_row(
 ) -> io::Result<()> {
     print_under(out, contents, negative, whole, up, down)?;
     match Number::from_scaled(negative, whole, up, down, 0) {
-        NumberAnswer::Refused(refusal) => print_refusal(out, refusal)?,
-        NumberAnswer::Number(number) => print_cut(out, contents, number)?,
+        Err(refusal) => print_refusal(out, refusal)?,
+        Ok(number) => print_cut(out, contents, number)?,
     }
     print_raw(out, b"\n")
 }
@@ -137,11 +129,9 @@ pub(crate) fn cut_row(
 pub(crate) fn size_row(out: &mut impl Write, contents: &[u8]) -> io::Result<()> {
     print_image(out, contents)?;
     print_raw(out, b": ")?;
-    let table = codec::read_alone(contents);
-    let answer = table.answer;
-    match answer {
-        CheckAnswer::Refused(refusal) => print_refusal(out, refusal)?,
-        CheckAnswer::Fine => {
+    match codec::read_alone(contents) {
+        Err(refusal) => print_refusal(out, refusal)?,
+        Ok(table) => {
             print_count(out, table.body)?;
             print_raw(out, b" bytes")?;
         }
@@ -155,14 +145,12 @@ pub(crate) fn body_row(out: &mut impl Write, contents: &[u8], body: &[u8]) -> io
     print_raw(out, b" body")?;
     print_hexadecimal(out, body)?;
     print_raw(out, b": ")?;
-    let unpacked = codec::unpack(contents, body);
-    let answer = unpacked.answer;
-    match answer {
-        CheckAnswer::Refused(refusal) => print_refusal(out, refusal)?,
-        CheckAnswer::Fine => {
-            let numbers = unpacked.numbers;
-            let values = numbers.values;
-            print_number(out, values[0])?;
+    match codec::unpack(contents, body) {
+        Err(refusal) => print_refusal(out, refusal)?,
+        Ok(numbers) => {
+            for number in numbers.as_slice() {
+                print_number(out, *number)?;
+            }
         }
     }
     print_raw(out, b"\n")

@@ -1,72 +1,54 @@
 // Rows of line images: what a line prints, and its fields.
 ghost use Rattle.std.specs.Prelude.{◌≤◌, length};
 
-use crate::shown::{ROOM, print_bytes, print_count, print_quoted, print_raw, print_refusal};
-use decimal::{Number, NumberAnswer};
-use records::{ELEMENTS, Element, PrintAnswer};
+use crate::shown::{ROOM, print_count, print_quoted, print_raw, print_refusal, print_text};
+use arrayvec::ArrayVec;
+use codec::written_part;
+use records::{ELEMENTS, Element};
 use std::io;
 use std::io::Write;
 
-// The end of the element that starts at a place of a list: the next semicolon, or the list's end.
-fn element_end(list: &[u8], start: usize) -> usize
-    requires { start ≤ length list.now }
-    ensures { (start ≤ result) × (result ≤ length list.now) }
+// The length of the element that a list begins with: the bytes before the next semicolon, or all.
+fn element_length(list: &[u8]) -> usize
+    ensures { result ≤ length list.now }
 {
-    let mut end = start;
-    while end < list.len() {
-        if list[end] == b';' {
-            return end;
-        }
-        end += 1;
-    }
-    end
+    list.iter()
+        .position(|&byte| byte == b';')
+        .unwrap_or(list.len())
 }
 
-// The element between two places of a list: a number where the bytes there are a text number, else a text.
-fn element_at(list: &[u8], start: usize, end: usize) -> Element
-    requires { (start ≤ end) × (end ≤ length list.now) }
-{
-    match codec::convert(&list[start..end]) {
-        NumberAnswer::Number(number) => Element::Number(number),
-        NumberAnswer::Refused(_) => Element::Text(start, end - start),
+// The element that bytes of a list from a place on are: a number where they are a text number, else a text.
+fn element_of(bytes: &[u8], start: usize) -> Element {
+    match codec::convert(bytes) {
+        Ok(number) => Element::Number(number),
+        Err(_) => Element::Text(start, bytes.len()),
     }
 }
 
-// Prints a line with elements, and writes the printed lines, each between quotes, and the spilled count; or the refusal.
-fn print_line(
-    out: &mut impl Write,
-    line: &[u8],
-    elements: [Element; ELEMENTS],
-    count: usize,
-    list: &[u8],
-) -> io::Result<()> {
-    let mut buffer = [0u8; ROOM];
-    match records::print(line, elements, count, list, &mut buffer) {
-        PrintAnswer::Refused(refusal) => print_refusal(out, refusal),
-        PrintAnswer::Printed(size, spilled) => {
-            print_raw(out, b"'")?;
-            print_bytes(out, buffer, size, false)?;
-            print_raw(out, b"', spilled ")?;
-            print_count(out, spilled)
-        }
-    }
-}
-
-// Prints a line with the elements of a list, which are parted by semicolons; past ELEMENTS the list is not read.
-fn print_list(out: &mut impl Write, line: &[u8], list: &[u8]) -> io::Result<()> {
-    let mut elements = [Element::Number(Number::ZERO); ELEMENTS];
-    let mut count = 0;
+// The elements of a list, which are parted by semicolons; past ELEMENTS the list is not read.
+fn elements_of(list: &[u8]) -> ArrayVec<Element, ELEMENTS> {
+    let mut elements = ArrayVec::new();
     let mut start = 0;
-    while count < ELEMENTS {
-        if list.len() <= start {
-            break;
-        }
-        let end = element_end(list, start);
-        elements[count] = element_at(list, start, end);
-        count += 1;
-        start = end + 1;
+    while start < list.len() && !elements.is_full() {
+        let rest = &list[start..];
+        let length = element_length(rest);
+        elements.push(element_of(&rest[..length], start));
+        start += length + 1;
     }
-    print_line(out, line, elements, count, list)
+    elements
+}
+
+// Prints a line with the elements of a list, and writes the printed lines, each between quotes, and the spilled count; or the refusal.
+fn print_list(out: &mut impl Write, line: &[u8], list: &[u8]) -> io::Result<()> {
+    let mut buffer = [0u8; ROOM];
+    match records::print(line, &elements_of(list), list, &mut buffer) {
+        Err(refusal) => print_refusal(out, refusal),
+        Ok(printed) => {
+            print_text(out, written_part(Ok(printed.bytes), &buffer))?;
+            print_raw(out, b", spilled ")?;
+            print_count(out, printed.spilled)
+        }
+    }
 }
 
 // Writes a row: a line image, a list of elements, and what the line prints with them.

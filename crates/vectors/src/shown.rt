@@ -53,7 +53,7 @@ pub(crate) fn print_remainder(out: &mut impl Write, remainder: Remainder) -> io:
 
 // Writes a refusal's number and place.
 pub(crate) fn print_refusal(out: &mut impl Write, refusal: Refusal) -> io::Result<()> {
-    write!(out, "refused {} {}", refusal.number, refusal.place)
+    write!(out, "{refusal}")
 }
 
 // Writes a byte of a text between quotes; a line end closes the quotes, and opens them again for the next line.
@@ -78,21 +78,11 @@ pub(crate) fn print_hexadecimal(out: &mut impl Write, bytes: &[u8]) -> io::Resul
     Ok(())
 }
 
-// Writes the first bytes of a buffer, as characters or in hexadecimal.
-pub(crate) fn print_bytes(
-    out: &mut impl Write,
-    buffer: [u8; ROOM],
-    size: usize,
-    hexadecimal: bool,
-) -> io::Result<()> {
-    for (i, byte) in buffer.iter().enumerate() {
-        if i < size {
-            if hexadecimal {
-                print_byte(out, *byte)?;
-            } else {
-                print_character(out, *byte)?;
-            }
-        }
+// Writes a printed text between quotes, each of its lines by itself.
+pub(crate) fn print_text(out: &mut impl Write, text: &[u8]) -> io::Result<()> {
+    print_raw(out, b"'")?;
+    for byte in text {
+        print_character(out, *byte)?;
     }
-    Ok(())
+    print_raw(out, b"'")
 }

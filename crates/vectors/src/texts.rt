@@ -1,7 +1,5 @@
 // Rows of texts.
 use crate::shown::{print_count, print_number, print_quoted, print_raw, print_refusal};
-use codec::TextAnswer;
-use decimal::NumberAnswer;
 use std::io;
 use std::io::Write;
 
@@ -20,8 +18,8 @@ pub(crate) fn text_row(out: &mut impl Write, text: &[u8]) -> io::Result<()> {
 // Ends a row with the number of a whole text, or the refusal.
 fn print_converted(out: &mut impl Write, text: &[u8]) -> io::Result<()> {
     match codec::convert(text) {
-        NumberAnswer::Refused(refusal) => print_refusal(out, refusal)?,
-        NumberAnswer::Number(number) => print_number(out, number)?,
+        Err(refusal) => print_refusal(out, refusal)?,
+        Ok(number) => print_number(out, number)?,
     }
     print_raw(out, b"\n")
 }
@@ -30,11 +28,11 @@ fn print_converted(out: &mut impl Write, text: &[u8]) -> io::Result<()> {
 fn print_read(out: &mut impl Write, text: &[u8]) -> io::Result<()> {
     print_raw(out, b": reads ")?;
     match codec::read_text_number(text) {
-        TextAnswer::Refused(refusal) => print_refusal(out, refusal)?,
-        TextAnswer::Number(number, used) => {
-            print_number(out, number)?;
+        Err(refusal) => print_refusal(out, refusal)?,
+        Ok(read) => {
+            print_number(out, read.number)?;
             print_raw(out, b", used ")?;
-            print_count(out, used)?;
+            print_count(out, read.used)?;
         }
     }
     print_raw(out, b"; whole ")?;

@@ -25,6 +25,6 @@ loop-size-preserved g c =
     let from = c.loop-size.size in
     let room = length c.loop-size.buffer - from in
     let within = c.loop-size.invariant.0 in
-    let part = slice_range-put_mid from room c.in-Ok.more c.loop-size.buffer c.read.new.buf within c.in-Ok.ensures.bound.0 in
-    let joined = take_split from (from + c.in-Ok.more) c.loop-size.buffer (put_mid from room c.loop-size.buffer c.read.new.buf) (omega arith) (take-put_mid_below _ _ _ _ _ (le_refl _) within) in
-    (search rules, subst (Consumes _ _) (ap (λ l. take from c.loop-size.buffer ++ l) (sym part) ∙ joined) (Consumes-trans _ _ _ _ _ c.loop-size.invariant.1 c.in-Ok.ensures.bytes.0))
+    let part = slice_range-put_mid from room c.in_ok-more.more c.loop-size.buffer c.read.new.buf within c.in_ok-more.ensures.bound.0 in
+    let joined = take_split from (from + c.in_ok-more.more) c.loop-size.buffer (put_mid from room c.loop-size.buffer c.read.new.buf) (omega arith) (take-put_mid_below _ _ _ _ _ (le_refl _) within) in
+    (search rules, subst (Consumes _ _) (ap (λ l. take from c.loop-size.buffer ++ l) (sym part) ∙ joined) (Consumes-trans _ _ _ _ _ c.loop-size.invariant.1 c.in_ok-more.ensures.bytes.0))

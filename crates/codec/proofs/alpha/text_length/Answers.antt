@@ -6,17 +6,14 @@ use Rattle.codec.proofs.ContentsLaws.{sign_few}
 use Rattle.codec.proofs.alpha.text_length.Goals as goal
 
 pub overflow_add-tail : goal.overflow_add-tail
-overflow_add-tail c =
-    let im = c.args.image in
-    omega (arith, fraction_few im.fraction, exponent_few im.exponential)
+overflow_add-tail c = omega (arith, fraction_few c.args.image.fraction, exponent_few c.args.image.exponential)
 
 pub overflow_add-result : goal.overflow_add-result
-overflow_add-result c = let im = c.args.image in
-    omega (arith, fraction_few im.fraction, exponent_few im.exponential)
+overflow_add-result c = omega (arith, fraction_few c.args.image.fraction, exponent_few c.args.image.exponential)
 
 pub overflow_add-result-2 : goal.overflow_add-result-2
-overflow_add-result-2 c = let im = c.args.image in
-    omega (arith, fraction_few im.fraction, exponent_few im.exponential, sign_few im.sign)
+overflow_add-result-2 c =
+    omega (arith, fraction_few c.args.image.fraction, exponent_few c.args.image.exponential, sign_few c.args.image.sign)
 
 pub returns : goal.returns
 unfolding text_length tail_length

@@ -1,36 +1,24 @@
 -- `write_fraction` meets its contract. Assumes nothing.
-use mathlib.Core.Path.{ap, ◌∙◌}
+use Prim.Native.Nat.{◌-◌}
+use mathlib.Core.Path.{ap, sym, ◌∙◌}
 use native.Mathlib.Omega.{arith}
-use lib.ListN.{length-set}
+use lib.ListN.{length}
 use Rattle.decimal.specs.Digits.{precision, value_of, halves_in}
-use Rattle.decimal.specs.Image.{point_byte}
 use Rattle.decimal.proofs.PackedLaws.{last_halves}
-use Rattle.codec.proofs.AlphaLaws.{fraction_none, fraction_some, fraction_unwritten, fraction_written}
+use Rattle.codec.specs.Alpha.{digit_bytes, fraction_text}
+use Rattle.codec.proofs.AlphaLaws.{fraction_text_length, fraction_filled, nothing_filled}
 use Rattle.codec.proofs.alpha.write_fraction.Goals as goal
 
-pub returns-then-fraction-eq0 : goal.returns-then-fraction-eq0
-returns-then-fraction-eq0 c =
+pub returns-in-Some : goal.returns-in-Some
+returns-in-Some c =
     let a = c.args in
+    let n = length c.in-Some.digits.now in
     let whole = value_of (halves_in precision a.halves) in
-    record { place = omega (arith, fraction_none a.fraction c.if-fraction-eq0.true); bytes = fraction_unwritten a.buffer.now a.at a.fraction whole c.if-fraction-eq0.true }
+    fraction_filled (length a.target.now - 1) whole (omega (arith, c.in-Some.ensures.cases.1, c.requires.0))
+    (c.write_digits.ensures ∙ ap digit_bytes (ap (halves_in n) c.requires.2 ∙ last_halves precision n whole (omega arith)))
 
-pub bounds-buffer-at : goal.bounds-buffer-at
-bounds-buffer-at c = let a = c.args in omega (arith, fraction_some a.fraction c.if-fraction-eq0.false)
-
-pub write_digits-requires : goal.write_digits-requires
-write_digits-requires c =
-    let a = c.args in
-    (omega arith, omega (arith, fraction_some a.fraction c.if-fraction-eq0.false, length-set a.buffer.now a.at point_byte))
-
-pub returns : goal.returns
-returns c =
-    let w = c in
-    let e = w in
-    let s = e in
-    let a = s.args in
-    let whole = value_of (halves_in precision a.halves) in
-    let digits = ap (halves_in a.fraction) s.requires.2 ∙ last_halves precision a.fraction whole s.requires.0 in
-    record {
-      place = omega (arith, fraction_some a.fraction e.if-fraction-eq0.false);
-      bytes = fraction_written a.buffer.now a.at a.fraction whole e.if-fraction-eq0.false s.requires.1 digits w.write_digits.ensures;
-    }
+pub returns-in_default : goal.returns-in_default
+returns-in_default c =
+    let f = length c.args.target.now - 1 in
+    let whole = value_of (halves_in precision c.args.halves) in
+    nothing_filled (fraction_text f whole) c.args.target.now (c.requires.0 ∙ sym (fraction_text_length f whole)) c.in_default.ensures.cases

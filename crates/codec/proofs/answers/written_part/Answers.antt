@@ -1,43 +1,32 @@
 -- `written_part` meets its contract: the buffer's first bytes, as many as the answer says, where it has them. Assumes nothing.
-use Prim.Native.Nat.{ℕ, ◌≤◌, ◌<◌}
-use mathlib.Core.Path.{◌≡◌, ap, sym}
-use mathlib.Core.List.{List, []}
-use native.Mathlib.Omega.{arith}
-use borrow.Author.Tests.{lt-ltb, le-ltb}
-use lib.ListN.{length, take}
-use Rattle.decimal.specs.Answer.{Answer, done, refused}
-use Rattle.codec.specs.Answers.{write_meaning, written_part}
+use Rattle.std.proofs.Common.{◌≡◌, ℕ, ◌≤◌, ◌<◌, List, [], Result, Ok, Err, length, take, lt-ltb, le-ltb}
+use Rattle.decimal.specs.declared.refusal.Refusal.{Refusal}
+use Rattle.decimal.specs.Answer.{meaning}
+use Rattle.codec.specs.Answers.{written_part}
 use Rattle.codec.proofs.answers.written_part.Goals as goal
+use Rattle.codec.proofs.answers.written_part.Goals.{in_default-via-in-Ok+else-size-buffer, in_default-via-in_default}
 
--- a refused call wrote nothing
-part_none : (a : Answer ℕ) (buffer : List ℕ) {number place : ℕ} → a ≡ refused number place → [] ≡ written_part a buffer
+-- the buffer's first bytes, where it has so many
+part_whole : (r : Result ℕ Refusal) (buffer : List ℕ) {size : ℕ} → r ≡ Ok size → size ≤ length buffer → take size buffer ≡ written_part (meaning r) buffer
 unfolding written_part
-part_none a buffer h = sym (ap (λ (x : Answer ℕ). written_part x buffer) h)
+part_whole r buffer {size} e h = rw (e, le-ltb (length buffer) size h)
 
--- nothing is given of a buffer that is shorter than what was written
-part_short : (a : Answer ℕ) (buffer : List ℕ) {size : ℕ} → a ≡ done size → length buffer < size → [] ≡ written_part a buffer
+-- nothing of a shorter one
+part_short : (r : Result ℕ Refusal) (buffer : List ℕ) {size : ℕ} → r ≡ Ok size → length buffer < size → [] ≡ written_part (meaning r) buffer
 unfolding written_part
-part_short a buffer {size} h l = rw (h, lt-ltb (length buffer) size l)
+part_short r buffer {size} e h = rw (e, lt-ltb (length buffer) size h)
 
--- else its first bytes
-part_whole : (a : Answer ℕ) (buffer : List ℕ) {size : ℕ} → a ≡ done size → size ≤ length buffer → take size buffer ≡ written_part a buffer
+-- and nothing where the call was refused
+part_none : (r : Result ℕ Refusal) (buffer : List ℕ) {e : Refusal} → r ≡ Err e → [] ≡ written_part (meaning r) buffer
 unfolding written_part
-part_whole a buffer {size} h l = rw (h, le-ltb (length buffer) size l)
+part_none r buffer e = rw e
 
-pub returns-then-buffer-size : goal.returns-then-buffer-size
-returns-then-buffer-size c =
-    let k = c in
-    let a = k.args in
-    part_short (write_meaning a.answer) a.buffer.now (ap write_meaning k.in-Written.is) (omega arith)
+pub returns-in-Ok : goal.returns-in-Ok
+returns-in-Ok c = part_whole c.args.answer c.args.buffer.now c.in-Ok.is c.if-size-buffer.true
 
-pub returns-in-Refused : goal.returns-in-Refused
-returns-in-Refused c =
-    let k = c in
-    let a = k.args in
-    part_none (write_meaning a.answer) a.buffer.now (ap write_meaning k.in-Refused.is)
-
-pub returns-else-buffer-size : goal.returns-else-buffer-size
-returns-else-buffer-size c =
-    let k = c in
-    let a = k.args in
-    part_whole (write_meaning a.answer) a.buffer.now (ap write_meaning k.in-Written.is) (omega arith)
+pub returns-in_default : goal.returns-in_default
+returns-in_default c =
+    elim c.in_default.branch [
+      | in_default-via-in-Ok+else-size-buffer w ↦ part_short c.args.answer c.args.buffer.now w.in-Ok.is w.if-size-buffer.false
+      | in_default-via-in_default w ↦ part_none c.args.answer c.args.buffer.now w.in_default.is
+    ]

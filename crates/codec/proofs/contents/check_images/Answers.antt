@@ -1,48 +1,24 @@
--- `check_images` meets its contract. The loop's invariant: the images that are left are refused as all of them are.
--- The measure is what is left of count. Assumes nothing.
-use mathlib.Core.Path.{◌≡◌, ap, sym, ◌∙◌}
-use native.Mathlib.Omega.{arith}
-use lib.ListN.{length}
-use Rattle.decimal.specs.Image.{image_meaning}
-use Rattle.codec.specs.Lists.{max_columns, no_image}
-use Rattle.codec.proofs.UnderLaws.{count_none, count_many, count_each, each_turn, each_refused, each_end}
+-- `check_images` meets its contract: refused with 10 for the count, else as the first image that is. Assumes nothing.
+use Rattle.std.proofs.Common.{sym, ◌∙◌, ⊎_elim}
+use Rattle.decimal.proofs.AnswerLaws.{passed_on}
+use Rattle.codec.specs.Lists.{no_image}
+use Rattle.codec.proofs.UnderLaws.{checks_none, checks_many, checks_each, each_turn, each_refused, each_end}
 use Rattle.codec.proofs.contents.check_images.Goals as goal
 
 pub returns-then-count-lt1 : goal.returns-then-count-lt1
-returns-then-count-lt1 c = let a = c.args in sym (count_none a.images (omega arith))
-
-pub returns-then-count-gt-COLUMNS : goal.returns-then-count-gt-COLUMNS
-returns-then-count-gt-COLUMNS c = let a = c.args in sym (count_many a.images (omega arith))
+returns-then-count-lt1 c = sym (⊎_elim (checks_none c.args.images.now) (λ many. checks_many c.args.images.now many.1) c.then-count-lt1.either)
 
 pub loop-column-init : goal.loop-column-init
-loop-column-init c =
-    let a = c.args in
-    let many : length a.images.values ≡ max_columns = omega arith in
-    (omega arith, count_each a.images (omega arith) (omega arith) (omega arith))
+loop-column-init c = checks_each c.args.images.now c.if-count-lt1.false c.if-count-gt-COLUMNS.false
 
-pub returns-in-Refused : goal.returns-in-Refused
-returns-in-Refused c =
-    let l = c in
-    let s = l in
-    let a = s.args in
-    let many : length a.images.values ≡ max_columns = omega arith in
-    let refused = sym c.checked.ensures ∙ ap image_meaning c.in-Refused.is in
-    sym
-    (l.loop-column.invariant.1 ∙ each_refused a.images (omega arith) l.loop-column.column no_image (omega arith) refused)
+pub returns-in_err-checked : goal.returns-in_err-checked
+returns-in_err-checked c =
+    passed_on _ _ c.from_residual.ensures.1
+    ∙ sym (c.loop-column.invariant ∙ each_refused c.args.images.now c.loop-column.column no_image c.loop-column-test.true (sym c.in_err-checked.ensures))
 
 pub loop-column-preserved : goal.loop-column-preserved
 loop-column-preserved c =
-    let l = c in
-    let s = l in
-    let a = s.args in
-    let many : length a.images.values ≡ max_columns = omega arith in
-    let fits = sym c.checked.ensures ∙ ap image_meaning c.in_default.is in
-    (omega arith, l.loop-column.invariant.1 ∙ each_turn a.images (omega arith) l.loop-column.column no_image (omega arith) fits)
+    c.loop-column.invariant ∙ each_turn c.args.images.now c.loop-column.column no_image c.loop-column-test.true (sym c.in_ok-checked.ensures)
 
 pub returns : goal.returns
-returns c =
-    let l = c in
-    let s = l in
-    let a = s.args in
-    let many : length a.images.values ≡ max_columns = omega arith in
-    sym (l.loop-column.invariant.1 ∙ each_end a.images (omega arith) l.loop-column.column (omega arith))
+returns c = sym (c.loop-column.invariant ∙ each_end c.args.images.now c.loop-column.column c.loop-column-test.false)

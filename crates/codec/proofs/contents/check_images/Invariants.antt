@@ -1,15 +1,7 @@
--- `check_images` meets its contract. The loop's invariant: the images that are left are refused as all of them are.
--- The measure is what is left of count. Assumes nothing.
-use Prim.Native.Nat.{◌-◌, ◌≤◌}
-use mathlib.Core.Path.{◌≡◌}
-use lib.ListN.{take, drop}
-use Rattle.codec.specs.Lists.{image_list}
+-- `check_images` meets its contract. The loop's invariant: the images that are left are refused as all of them are. Assumes nothing.
+use Rattle.std.specs.Prelude.{◌≡◌, drop}
 use Rattle.codec.specs.Contents.{check_each, check_images}
 use Rattle.codec.proofs.contents.check_images.Given as goal
 
 abbrev pub invariant-loop-column : goal.invariant-loop-column
-invariant-loop-column l =
-    (l.column ≤ l.count) × (check_images (image_list l.images) ≡ check_each l.column (drop l.column (take l.images.count l.images.values)))
-
-abbrev pub decreases-loop-column : goal.decreases-loop-column
-decreases-loop-column l = l.count - l.column
+invariant-loop-column l = check_images l.images ≡ check_each l.column (drop l.column l.images)

@@ -1,27 +1,17 @@
 -- `read_alone` meets its contract: as `read_contents`, and 11 where its contents does not fill the bytes. Assumes nothing.
-use mathlib.Core.Path.{ap, sym, ◌∙◌}
-use native.Mathlib.Omega.{arith}
+use Rattle.std.proofs.Common.{sym, ◌∙◌}
+use Rattle.decimal.proofs.AnswerLaws.{passed_on, mapped_refused, mapped_refused_back}
 use Rattle.codec.specs.Contents.{contents_of}
-use Rattle.codec.proofs.ContentsLaws.{alone_stops, alone_whole, alone_long}
+use Rattle.codec.proofs.ContentsLaws.{alone_first, alone_whole, alone_long}
 use Rattle.codec.proofs.contents.read_alone.Goals as goal
 
-pub returns-in-Refused : goal.returns-in-Refused
-returns-in-Refused c =
-    let f = c in
-    alone_stops f.args.bytes.now f.read_contents-contents.result f.read_contents-contents.ensures _ c.in-Refused.is
+pub returns-in_err-contents : goal.returns-in_err-contents
+returns-in_err-contents c =
+    passed_on _ _ c.from_residual.ensures.1
+    ∙ sym (mapped_refused contents_of (alone_first c.args.bytes.now (mapped_refused_back contents_of _ c.in_err-contents.ensures)))
 
 pub returns-then-contents-bytes : goal.returns-then-contents-bytes
-returns-then-contents-bytes c =
-    let t = c in
-    let f = t in
-    alone_whole f.args.bytes.now f.read_contents-contents.result f.read_contents-contents.ensures t.in-Fine.is (omega arith)
+returns-then-contents-bytes c = alone_whole c.args.bytes.now c.in_ok-contents.ensures c.if-contents-bytes.true
 
 pub returns-else-contents-bytes : goal.returns-else-contents-bytes
-returns-else-contents-bytes c =
-    let t = c in
-    let f = t in
-    c.refused.ensures
-    ∙ sym
-    (ap contents_of
-    (alone_long f.args.bytes.now f.read_contents-contents.result f.read_contents-contents.ensures t.in-Fine.is
-    (λ e. omega arith)))
+returns-else-contents-bytes c = sym (mapped_refused contents_of (alone_long c.args.bytes.now c.in_ok-contents.ensures c.if-contents-bytes.false))

@@ -1,69 +1,65 @@
--- `read_contents` meets its contract. The loop's invariant is `Reading`: the images read, with those that the rest gives behind
--- them, are those of the whole. The measure is what is left of the count. Assumes nothing.
-use mathlib.Core.Path.{ap, sym, ◌∙◌}
-use native.Mathlib.Omega.{arith}
-use Rattle.codec.specs.Lists.{filled}
-use Rattle.codec.specs.Contents.{contents_of, column_meaning}
-use Rattle.codec.proofs.ContentsLaws.{reading_starts, reading_turns, reading_refused, column_good, column_few, contents_none, contents_zero, contents_many, contents_stopped, contents_made}
+-- `read_contents` meets its contract: refused for the count, or as the first column that is; else its columns' images. Assumes nothing.
+use Rattle.std.proofs.Common.{◌≡◌, ℕ, List, drop, sym, ap, ◌∙◌, ⊎_elim, arith}
+use Rattle.decimal.specs.Answer.{mapped}
+use Rattle.decimal.proofs.AnswerLaws.{passed_on, mapped_refused}
+use Rattle.codec.specs.Contents.{read_contents, contents_of}
+use Rattle.codec.proofs.ContentsLaws.{reading_starts, reading_turns, reading_refused, column_checked, column_few, byte_here, column_behind, behind_inside, column_lent, contents_none, contents_zero, contents_many, contents_stopped, contents_made}
 use Rattle.codec.proofs.contents.read_contents.Goals as goal
 
-pub returns-then-bytes-eq0 : goal.returns-then-bytes-eq0
-returns-then-bytes-eq0 c = c.refused.ensures ∙ sym (ap contents_of (contents_none c.args.bytes.now (omega arith)))
+pub returns-in_default : goal.returns-in_default
+returns-in_default c = sym (mapped_refused contents_of (contents_none c.args.bytes.now c.in_default.ensures.cases))
 
 pub returns-then-count-lt1 : goal.returns-then-count-lt1
 returns-then-count-lt1 c =
-    let a = c.args in
-    c.refused-then-count-lt1.ensures ∙ sym (ap contents_of (contents_zero a.bytes.now (omega arith) (omega arith)))
-
-pub returns-then-count-gt-COLUMNS : goal.returns-then-count-gt-COLUMNS
-returns-then-count-gt-COLUMNS c =
-    let a = c.args in
-    c.refused-then-count-gt-COLUMNS.ensures ∙ sym (ap contents_of (contents_many a.bytes.now (omega arith) (omega arith)))
+    let refused =
+    ap read_contents c.in-Some.ensures.cases.0
+    ∙ ⊎_elim (contents_zero c.in-Some.first.now c.in-Some.columns.now) (λ many. contents_many c.in-Some.first.now c.in-Some.columns.now many.1) c.then-count-lt1.either in
+    sym (mapped_refused contents_of refused)
 
 pub loop-column-init : goal.loop-column-init
-unfolding filled
-loop-column-init c = reading_starts _ _ (omega arith)
+loop-column-init c = rw c.new-images.ensures (reading_starts c.in-Some.columns.now c.in-Some.first.now)
 
-pub returns-in-Refused : goal.returns-in-Refused
-returns-in-Refused c =
-    let k = c in
-    let f = k in
-    let l = f in
-    let a = l.args in
-    c.refused-in-Refused.ensures
-    ∙ sym
-    (ap contents_of
-    (contents_stopped a.bytes.now (omega arith) (omega arith) (omega arith)
-    (reading_refused l.loop-column.invariant f.loop-column-test.true
-    (sym f.read_column.ensures ∙ ap column_meaning k.in-Refused.is))))
+pub slice_bounds-read_column-count : goal.slice_bounds-read_column-count
+slice_bounds-read_column-count c = c.loop-column.invariant.within
 
-pub column_size-body-requires : goal.column_size-body-requires
-column_size-body-requires c =
-    let f = c in
-    let l = f in
-    let a = l.args in
-    (column_good l.loop-column.column l.loop-column.at a.bytes.now (sym f.read_column.ensures ∙ ap column_meaning c.in-Column.is)).fits
+pub slice_bounds-read_column-start : goal.slice_bounds-read_column-start
+slice_bounds-read_column-start c = c.loop-column.invariant.within
+
+pub returns-in_err-image : goal.returns-in_err-image
+returns-in_err-image c =
+    let refused =
+    ap read_contents c.in-Some.ensures.cases.0
+    ∙ contents_stopped c.in-Some.first.now c.in-Some.columns.now c.if-count-lt1.false c.if-count-gt-COLUMNS.false
+    (reading_refused c.loop-column.invariant c.loop-column-test.true (column_lent c.loop-column.at c.loop-column.column c.in-Some.columns.now c.in_err-image.ensures.answer)) in
+    passed_on _ _ c.from_residual.ensures.1 ∙ sym (mapped_refused contents_of refused)
+
+pub push-requires : goal.push-requires
+push-requires c = (omega arith, omega (arith, c.loop-column.invariant.as_many, c.loop-column-test.true, c.if-count-gt-COLUMNS.false))
 
 pub overflow_add-body : goal.overflow_add-body
 overflow_add-body c =
-    let k = c in
-    let f = k in
-    let l = f in
-    let a = l.args in
-    let good = column_good l.loop-column.column l.loop-column.at a.bytes.now (sym f.read_column.ensures ∙ ap column_meaning k.in-Column.is) in
-    omega (arith, column_few good, l.loop-column.invariant.few)
+    let some = column_few (column_checked c.loop-column.column (drop c.loop-column.at c.in-Some.columns.now) (column_lent c.loop-column.at c.loop-column.column c.in-Some.columns.now c.in_ok-image.ensures.answer)) in
+    omega (arith, some, c.column_size-body.ensures, c.loop-column.invariant.few)
+
+pub bounds-columns-at : goal.bounds-columns-at
+bounds-columns-at c = byte_here c.loop-column.at c.loop-column.column c.in-Some.columns.now (column_lent c.loop-column.at c.loop-column.column c.in-Some.columns.now c.in_ok-image.ensures.answer)
+
+pub overflow_add-at-in-loop-column : goal.overflow_add-at-in-loop-column
+overflow_add-at-in-loop-column c =
+    let read = column_lent c.loop-column.at c.loop-column.column c.in-Some.columns.now c.in_ok-image.ensures.answer in
+    omega (arith, behind_inside c.loop-column.at c.loop-column.column c.in-Some.columns.now read, c.in-Some.ensures.cases.1)
 
 pub loop-column-preserved : goal.loop-column-preserved
 loop-column-preserved c =
-    let k = c in
-    let f = k in
-    let l = f in
-    reading_turns l.loop-column.invariant f.loop-column-test.true (omega arith)
-    (sym f.read_column.ensures ∙ ap column_meaning k.in-Column.is)
+    let read = column_lent c.loop-column.at c.loop-column.column c.in-Some.columns.now c.in_ok-image.ensures.answer in
+    reading_turns c.loop-column.invariant c.loop-column-test.true read c.push.ensures.items
+    (column_behind c.loop-column.at c.loop-column.column c.in-Some.columns.now read)
     c.column_size-body.ensures
+
+pub overflow_add-result : goal.overflow_add-result
+overflow_add-result c = omega (arith, c.loop-column.invariant.within, c.in-Some.ensures.cases.1)
 
 pub returns : goal.returns
 returns c =
-    let l = c in
-    let a = l.args in
-    contents_made a.bytes.now (omega arith) (omega arith) (omega arith) l.loop-column.invariant c.loop-column-test.false
+    contents_made c.in-Some.first.now c.in-Some.columns.now c.if-count-lt1.false c.if-count-gt-COLUMNS.false c.loop-column.invariant c.loop-column-test.false
+    ∙ sym (ap (λ (bytes : List ℕ). mapped contents_of (read_contents bytes)) c.in-Some.ensures.cases.0)

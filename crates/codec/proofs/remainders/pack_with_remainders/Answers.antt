@@ -1,85 +1,77 @@
--- `pack_with_remainders` meets its contract: packing's own answer and bytes, and the remainders of the columns that it packed. The loop's
--- invariant: the remainders of the columns so far stand in the array, zero's behind them. The measure is what is left of the columns.
--- Assumes nothing.
-use Prim.Native.Nat.{ℕ}
-use mathlib.Core.Path.{◌≡◌, refl, ap, sym, ◌∙◌, subst}
-use mathlib.Core.List.{List}
-use native.Mathlib.Omega.{arith}
-use borrow.Author.Rules.{rules}
-use lib.ListN.{length, take}
-use Rattle.decimal.specs.Answer.{Answer}
-use Rattle.decimal.specs.Remainder.{zero_remainder}
+-- `pack_with_remainders` meets its contract: packing's own answer and bytes, and what its truncations leave. Assumes nothing.
+use Rattle.std.proofs.Common.{◌≡◌, ℕ, List, length, ap, sym, ◌∙◌}
+use Rattle.decimal.specs.declared.image.Image.{Image}
+use Rattle.decimal.specs.Answer.{Answer, mapped, meaning}
+use Rattle.decimal.proofs.AnswerLaws.{passed_on, mapped_refused, mapped_refused_back}
 use Rattle.codec.specs.Answers.{stored_in, sized}
-use Rattle.codec.specs.Lists.{filled, list_of, max_columns}
-use Rattle.codec.specs.Remainders.{remainders_of}
-use Rattle.codec.proofs.ContentsLaws.{alone_refused}
+use Rattle.codec.specs.Contents.{contents_of, read_alone}
+use Rattle.codec.specs.Packing.{packing, packing_under}
+use Rattle.codec.specs.Remainders.{cut_columns, size_of, remainders_of}
+use Rattle.codec.proofs.ContentsLaws.{told_read, alone_sound}
+use Rattle.codec.proofs.BufferLaws.{sized_refused_back, sized_back}
+use Rattle.codec.proofs.AlphaLaws.{refused_answers}
 use Rattle.codec.proofs.UnderLaws.{packing_lent}
 use Rattle.codec.proofs.BodyLaws.{packing_contents}
-use Rattle.codec.proofs.RemainderLaws.{left_of, refused_none, Left, left_found, left_turn, left_answer}
+use Rattle.codec.proofs.RemainderLaws.{left_refused, body_packs, remainders_found}
 use Rattle.codec.proofs.remainders.pack_with_remainders.Goals as goal
 
-pub returns-in-Refused : goal.returns-in-Refused
-unfolding sized stored_in
-returns-in-Refused c =
-    let n = c in
-    let r = n in
-    let a = r.args in
-    let refusal =
-    packing_contents a.contents.now (list_of a.numbers) (length a.buffer.now)
-    (alone_refused _ r.read_alone-table.result _ r.read_alone-table.ensures n.in-Refused.is) in
+pub returns-in_err-table : goal.returns-in_err-table
+returns-in_err-table c =
+    let a = c.args in
+    let room = length a.buffer.now in
+    let refused = packing_contents a.contents.now a.numbers.now room (mapped_refused_back contents_of _ c.in_err-table.ensures) in
+    let all = refused_answers (packing a.contents.now a.numbers.now room) a.buffer.now refused in
+    let told = passed_on _ _ c.from_residual.ensures.1 in
     record {
-      answer = c.refused.ensures.0 ∙ sym (ap sized refusal);
-      bytes = sym (ap (λ (k : Answer (List ℕ)). stored_in k a.buffer.now) refusal);
-      remainders = c.refused.ensures.1 ∙ sym (ap remainders_of (refused_none a.contents.now (list_of a.numbers) (length a.buffer.now) refusal));
+      answer = mapped_refused size_of told ∙ all.0;
+      bytes = all.1;
+      remainders = mapped_refused remainders_of told ∙ sym (left_refused a.contents.now a.numbers.now room refused);
     }
 
-pub loop-column-init : goal.loop-column-init
-unfolding left_of filled
-loop-column-init c =
-    let u = c in
-    let t = u in
-    let r = t in
-    let s = r in
-    let a = s.args in
-    let long : length a.numbers.values ≡ max_columns = omega arith in
-    let left = left_found a.contents.now r.read_alone-table.result r.read_alone-table.ensures t.in_default.is a.numbers long (length a.buffer.now) u.pack_under-answer.ensures.answer c.packed_columns-count.ensures in
-    let room : length a.buffer.now ≡ length u.pack_under-answer.new.buffer = search rules in
-    (subst (λ (k : ℕ). Left a.contents.now a.numbers k r.read_alone-table.result.images c.packed_columns-count.result) room left, omega arith, refl)
+pub returns-in_err-size : goal.returns-in_err-size
+returns-in_err-size c =
+    let a = c.args in
+    let room = length a.buffer.now in
+    let same : packing_under c.deref.result.now a.numbers.now room ≡ packing a.contents.now a.numbers.now room =
+    ap (λ (ims : List Image). packing_under ims a.numbers.now room) c.deref.ensures.0 ∙ sym (packing_lent a.contents.now c.in_ok-table.ensures a.numbers.now room) in
+    let under = c.in_err-size.ensures in
+    let told = passed_on _ _ c.from_residual-in_err-size.ensures.1 in
+    record {
+      answer = mapped_refused size_of told ∙ under.answer ∙ ap sized same;
+      bytes = under.bytes ∙ ap (λ (x : Answer (List ℕ)). stored_in x a.buffer.now) same;
+      remainders =
+          mapped_refused remainders_of told
+          ∙ sym (left_refused a.contents.now a.numbers.now room (sym same ∙ sized_refused_back _ under.answer));
+    }
 
-pub offset_bounds-images-column : goal.offset_bounds-images-column
-offset_bounds-images-column c = omega (arith, c.loop-column.invariant.0.few)
-
-pub bounds-images-column : goal.bounds-images-column
-bounds-images-column c = omega (arith, c.loop-column.invariant.0.few, c.loop-column.invariant.0.array)
-
-pub offset_bounds-numbers-column : goal.offset_bounds-numbers-column
-offset_bounds-numbers-column c = omega (arith, c.loop-column.invariant.0.few)
-
-pub bounds-numbers-column : goal.bounds-numbers-column
-bounds-numbers-column c = omega (arith, c.loop-column.invariant.0.few, c.loop-column.invariant.0.long)
-
-pub loop-column-preserved : goal.loop-column-preserved
-loop-column-preserved c =
-    let l = c in
-    let i = l.loop-column.invariant in
-    (i.0, omega arith, left_turn i.0 l.loop-column.column _ _ (omega arith) i.2 c.column_remainder.ensures)
+pub cut_off-requires : goal.cut_off-requires
+cut_off-requires c =
+    let a = c.args in
+    let room = length a.buffer.now in
+    let same : packing_under c.deref.result.now a.numbers.now room ≡ packing a.contents.now a.numbers.now room =
+    ap (λ (ims : List Image). packing_under ims a.numbers.now room) c.deref.ensures.0 ∙ sym (packing_lent a.contents.now c.in_ok-table.ensures a.numbers.now room) in
+    let t = told_read (read_alone a.contents.now) c.in_ok-table.ensures in
+    let b = sized_back _ (sym (ap meaning c.in_ok-size.was) ∙ c.pack_under.ensures.answer) in
+    rw (c.deref-2.ensures.0, t.images)
+    ((alone_sound a.contents.now t.reads).high, body_packs a.contents.now a.numbers.now room t.reads (sym same ∙ b.1))
 
 pub returns : goal.returns
+unfolding mapped
 returns c =
-    let l = c in
-    let u = l in
-    let t = u in
-    let r = t in
-    let a = r.args in
-    let i = l.loop-column.invariant in
-    let same =
-    packing_lent a.contents.now r.read_alone-table.result r.read_alone-table.ensures t.in_default.is (list_of a.numbers) (length a.buffer.now) in
-    let all : l.loop-column.column ≡ l.packed_columns-count.result = omega arith in
-    let room : length u.pack_under-answer.new.buffer ≡ length a.buffer.now = search rules in
-    let left = subst (λ (k : ℕ). Left a.contents.now a.numbers k r.read_alone-table.result.images l.packed_columns-count.result) room i.0 in
-    let stored = i.2 ∙ ap (λ (k : ℕ). filled max_columns zero_remainder (left_of (take k r.read_alone-table.result.images.values) (take k a.numbers.values))) all in
+    let a = c.args in
+    let room = length a.buffer.now in
+    let same : packing_under c.deref.result.now a.numbers.now room ≡ packing a.contents.now a.numbers.now room =
+    ap (λ (ims : List Image). packing_under ims a.numbers.now room) c.deref.ensures.0 ∙ sym (packing_lent a.contents.now c.in_ok-table.ensures a.numbers.now room) in
+    let t = told_read (read_alone a.contents.now) c.in_ok-table.ensures in
+    let under = c.pack_under.ensures in
+    let answer = sym (ap meaning c.in_ok-size.was) ∙ under.answer in
+    let b = sized_back _ answer in
     record {
-      answer = u.pack_under-answer.ensures.answer ∙ ap sized (sym same);
-      bytes = u.pack_under-answer.ensures.bytes ∙ ap (λ (k : Answer (List ℕ)). stored_in k a.buffer.now) (sym same);
-      remainders = left_answer left stored;
+      answer = answer ∙ ap sized same;
+      bytes = under.bytes ∙ ap (λ (x : Answer (List ℕ)). stored_in x a.buffer.now) same;
+      remainders =
+          sym
+          (remainders_found a.contents.now a.numbers.now room t.reads (sym same ∙ b.1)
+          ∙ ap (λ (ims : List Image). cut_columns 0 ims a.numbers.now) (sym (c.deref-2.ensures.0 ∙ t.images))
+          ∙ c.cut_off.ensures);
     }

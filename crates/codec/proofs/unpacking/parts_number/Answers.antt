@@ -1,60 +1,36 @@
--- `parts_number` meets its contract: the rules, then the number with the stored exponent. Assumes nothing.
-use Prim.Native.Nat.{ℕ, ◌+◌, ◌-◌, ◌≤◌}
-use mathlib.Core.Path.{◌≡◌, ap, sym, ◌∙◌}
-use mathlib.Core.Bool.{Bool, true, false}
-use native.Mathlib.Omega.{arith}
-use lib.Bits.{and_mask}
-use lib.Dec.{eqb}
+-- `parts_number` meets its contract: the rules, then the number with the stored exponent, whose refusal is the column's. Assumes nothing.
+use Rattle.std.proofs.Common.{◌≡◌, ℕ, ◌+◌, ◌-◌, Bool, false, Result, Err, eqb, ap, sym, ◌∙◌}
+use Rattle.std.specs.Result.{result_or}
+use Rattle.std.proofs.lemmas.Nat.{and_mask}
 use Rattle.decimal.specs.declared.image.Image.{Image}
-use Rattle.decimal.specs.declared.number.NumberAnswer.{NumberAnswer}
-use Rattle.decimal.specs.Answer.{pick}
-use Rattle.decimal.specs.Number.{exponent_limit, number_meaning, scaled_number}
+use Rattle.decimal.specs.declared.number.Number.{Number}
+use Rattle.decimal.specs.declared.refusal.Reason.TheVariants.{BadHalf}
+use Rattle.decimal.specs.declared.refusal.Refusal.{Refusal}
+use Rattle.decimal.specs.Answer.{pick, meaning}
+use Rattle.decimal.specs.Number.{exponent_limit, scaled_number}
 use Rattle.codec.specs.Unpacking.{as_half, below_bit, minus_bit, breaks_rules, parts_number}
-use Rattle.codec.proofs.UnpackLaws.{parts_broken, parts_kept}
+use Rattle.codec.proofs.UnpackLaws.{half_or, parts_broken, parts_kept}
 use Rattle.codec.proofs.unpacking.parts_number.Goals as goal
-
--- the stored exponent is small
-small : (b : Bool) (size : ℕ) → size ≤ exponent_limit → pick b (exponent_limit - size) (exponent_limit + size) ≤ exponent_limit + exponent_limit
-small true size h = omega arith
-small false size h = omega arith
 
 -- what the code finds makes the number, or none
 made :
-    (column : ℕ) (im : Image) (sign whole size : ℕ) {minus : Bool} {up : ℕ} (r : NumberAnswer)
+    (column : ℕ) (im : Image) (sign whole size : ℕ) {minus : Bool} {up : ℕ} (r : Result Number Refusal) {s : Result Number Refusal}
     → breaks_rules im sign whole size ≡ false
     → minus ≡ minus_bit sign
     → up ≡ pick (below_bit sign) (exponent_limit - size) (exponent_limit + size)
-    → number_meaning r ≡ scaled_number column minus whole up (exponent_limit + im.fraction)
-    → as_half column (number_meaning r) ≡ parts_number column im sign whole size
-made column im sign whole size {minus} {up} r kept negative x scaled =
-    ap (as_half column) (scaled ∙ (λ i. scaled_number column (negative i) whole (x i) (exponent_limit + im.fraction)))
+    → meaning r ≡ scaled_number column minus whole up (exponent_limit + im.fraction)
+    → s ≡ result_or r (Err (record { reason = BadHalf; place = column }))
+    → meaning s ≡ parts_number column im sign whole size
+made column im sign whole size {minus} {up} r kept negative x scaled either =
+    ap meaning either
+    ∙ half_or column r
+    ∙ ap (as_half column) (scaled ∙ (λ i. scaled_number column (negative i) whole (x i) (exponent_limit + im.fraction)))
     ∙ sym (parts_kept column im sign whole size kept)
 
 pub returns-then-breaks_rules : goal.returns-then-breaks_rules
-returns-then-breaks_rules c =
-    let b = c in
-    c.bad_half.ensures ∙ sym (parts_broken _ _ _ _ _ (sym b.breaks_rules.ensures ∙ c.if-breaks_rules.true))
+returns-then-breaks_rules c = sym (parts_broken _ _ _ _ _ (sym c.breaks_rules.ensures ∙ c.if-breaks_rules.true))
 
-pub returns-in-Number : goal.returns-in-Number
-unfolding as_half
-returns-in-Number c =
-    let f = c in
-    let x = f in
-    let b = x in
-    let a = b.args in
-    sym (ap (λ (r : NumberAnswer). as_half a.column (number_meaning r)) c.in-Number.is)
-    ∙ made a.column a.image a.sign a.whole a.size f.from_scaled.result (sym b.breaks_rules.ensures ∙ x.if-breaks_rules.false)
-    (ap (λ (k : ℕ). eqb k 1) (and_mask a.sign 3)) x.signed_exponent-up.ensures f.from_scaled.ensures
-
-pub returns-in-Refused : goal.returns-in-Refused
-unfolding as_half
-returns-in-Refused c =
-    let t = c in
-    let f = t in
-    let x = f in
-    let b = x in
-    let a = b.args in
-    c.bad_half-in-Refused.ensures
-    ∙ sym (ap (λ (r : NumberAnswer). as_half a.column (number_meaning r)) t.in-Refused.is)
-    ∙ made a.column a.image a.sign a.whole a.size f.from_scaled.result (sym b.breaks_rules.ensures ∙ x.if-breaks_rules.false)
-    (ap (λ (k : ℕ). eqb k 1) (and_mask a.sign 3)) x.signed_exponent-up.ensures f.from_scaled.ensures
+pub returns : goal.returns
+returns c =
+    made c.args.column c.args.image c.args.sign c.args.whole c.args.size c.from_scaled.result (sym c.breaks_rules.ensures ∙ c.if-breaks_rules.false)
+    (ap (λ (k : ℕ). eqb k 1) (and_mask c.args.sign 3)) c.signed_exponent-up.ensures c.from_scaled.ensures c.or.ensures

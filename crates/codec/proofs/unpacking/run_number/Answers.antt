@@ -22,4 +22,4 @@ returns c =
     let z = c in
     let n = z in
     let odd : pad_count n.args.image ≡ 0 → ⊥ = λ e. n.if-half_count-eq0.false (ap (λ (n : ℕ). n % 2) n.half_count.ensures ∙ e) in
-    c.bad_half.ensures ∙ sym (run_other _ _ _ _ odd z.if-value-eq0.false)
+    sym (run_other _ _ _ _ odd z.if-value-eq0.false)

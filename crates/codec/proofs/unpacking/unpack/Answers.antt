@@ -1,28 +1,21 @@
 -- `unpack` meets its contract: refused as the contents is, else the body is read under its images. Assumes nothing.
-use mathlib.Core.Path.{ap, sym, ◌∙◌}
-use Rattle.codec.specs.Unpacking.{unpacked_of}
-use Rattle.codec.proofs.ContentsLaws.{alone_refused}
+use Rattle.std.proofs.Common.{List, ap, sym, ◌∙◌}
+use Rattle.decimal.specs.declared.image.Image.{Image}
+use Rattle.decimal.proofs.AnswerLaws.{passed_on, mapped_refused, mapped_refused_back}
+use Rattle.codec.specs.Lists.{items_of}
+use Rattle.codec.specs.Contents.{contents_of}
+use Rattle.codec.specs.Unpacking.{unpack_under}
 use Rattle.codec.proofs.UnderLaws.{unpacking_lent}
 use Rattle.codec.proofs.UnpackLaws.{unpacking_refused}
 use Rattle.codec.proofs.unpacking.unpack.Goals as goal
 
-pub returns-in-Refused : goal.returns-in-Refused
-returns-in-Refused c =
-    let n = c in
-    let r = n in
-    let a = r.args in
-    c.refused.ensures
-    ∙ sym
-    (ap unpacked_of
-    (unpacking_refused a.contents.now a.body.now
-    (alone_refused a.contents.now r.read_alone-table.result n.in-Refused.refusal r.read_alone-table.ensures n.in-Refused.is)))
+pub returns-in_err-table : goal.returns-in_err-table
+returns-in_err-table c =
+    mapped_refused items_of (passed_on _ _ c.from_residual.ensures.1)
+    ∙ sym (unpacking_refused c.args.contents.now c.args.body.now (mapped_refused_back contents_of _ c.in_err-table.ensures))
 
 pub returns : goal.returns
 returns c =
-    let t = c in
-    let r = t in
-    let a = r.args in
     c.unpack_under.ensures
-    ∙ sym
-    (ap unpacked_of
-    (unpacking_lent a.contents.now r.read_alone-table.result r.read_alone-table.ensures t.in_default.is a.body.now))
+    ∙ ap (λ (ims : List Image). unpack_under ims c.args.body.now) c.deref.ensures.0
+    ∙ sym (unpacking_lent c.args.contents.now c.in_ok-table.ensures c.args.body.now)

@@ -1,18 +1,7 @@
--- `read_at` meets its contract: from the end on there is no text number, else the text reader finds it. Assumes nothing.
-use mathlib.Core.Path.{ap, sym, ◌∙◌}
-use Prim.Native.Nat.{ℕ}
-use lib.ListN.{take, drop, length-drop}
-use lib.Seq.{take-length}
-use Rattle.codec.specs.Text.{reading_in}
+-- `read_at` meets its contract: past the end there is no text number. Assumes nothing.
+use Rattle.std.proofs.Common.{arith}
 use Rattle.codec.proofs.WalkLaws.{reading_end}
 use Rattle.codec.proofs.walking.read_at.Goals as goal
 
-pub returns-then-text-place : goal.returns-then-text-place
-returns-then-text-place c = let a = c.args in reading_end a.text.now a.place c.if-text-place.true
-
-pub returns : goal.returns
-returns c =
-    let a = c.args in
-    let rest = drop a.place a.text.now in
-    let all = ap (λ (n : ℕ). take n rest) (sym (length-drop a.place a.text.now)) ∙ take-length rest in
-    c.read_text.ensures ∙ ap reading_in all
+pub returns-in-None : goal.returns-in-None
+returns-in-None c = reading_end c.args.text.now c.args.place (omega (arith, c.in-None.ensures.lookup))

@@ -1,12 +1,12 @@
--- `read_text_numbers` meets its contract. The loop's invariant is `Collecting`: the numbers that are read stand in the array, and with those that
--- are left they are the whole. The measure is what is left of the array. Assumes nothing.
-use Prim.Native.Nat.{◌-◌}
+-- `read_text_numbers` meets its contract. The loop's invariant is `Collecting`: the numbers that are read, with those that are left, are the
+-- whole. The measure is the room that is left. Assumes nothing.
+use Rattle.std.specs.Prelude.{◌-◌, length}
 use Rattle.codec.specs.Lists.{max_columns}
 use Rattle.codec.proofs.WalkLaws.{Collecting}
 use Rattle.codec.proofs.walking.read_text_numbers.Given as goal
 
-abbrev pub invariant-loop-count : goal.invariant-loop-count
-invariant-loop-count l = Collecting l.text l.from l.values l.count l.place
+abbrev pub invariant-loop-numbers : goal.invariant-loop-numbers
+invariant-loop-numbers l = Collecting l.text l.from l.numbers.items l.place
 
-abbrev pub decreases-loop-count : goal.decreases-loop-count
-decreases-loop-count l = max_columns - l.count
+abbrev pub decreases-loop-numbers : goal.decreases-loop-numbers
+decreases-loop-numbers l = max_columns - length l.numbers.items

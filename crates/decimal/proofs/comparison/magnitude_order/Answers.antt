@@ -1,30 +1,17 @@
 -- `magnitude_order` meets its contract: zero, the exponents and the mantissas decide the order of the magnitudes. Assumes nothing.
-use Rattle.std.proofs.Common.{sym, ◌∙◌, arith}
-use Rattle.decimal.proofs.ComparisonLaws.{zero_magnitudes, some_and_zero, exponent_less, exponent_greater, exponent_equal}
+use Rattle.std.proofs.Common.{◌∙◌, ap₂}
+use Rattle.std.specs.Ordering.{ordering_then}
+use Rattle.decimal.specs.Comparison.{whole_order}
+use Rattle.decimal.proofs.ComparisonLaws.{zero_decides, exponents_first}
 use Rattle.decimal.proofs.comparison.magnitude_order.Goals as goal
 
 pub returns-then-first-eq0 : goal.returns-then-first-eq0
-returns-then-first-eq0 c =
-    let s = c in
-    c.whole_order.ensures ∙ sym (zero_magnitudes s.args.first s.args.second s.requires.0 s.requires.1 (omega arith))
-
-pub returns-then-second-eq0 : goal.returns-then-second-eq0
-returns-then-second-eq0 c =
-    let s = c in
-    sym (some_and_zero s.args.first s.args.second s.requires.0 s.requires.1 (omega arith) (omega arith))
-
-pub returns-then-first-second : goal.returns-then-first-second
-returns-then-first-second c =
-    let s = c in
-    sym (exponent_less s.args.first s.args.second s.requires.0 s.requires.1 (omega arith) (omega arith) (omega arith))
-
-pub returns-then-second-first : goal.returns-then-second-first
-returns-then-second-first c =
-    let s = c in
-    sym (exponent_greater s.args.first s.args.second s.requires.0 s.requires.1 (omega arith) (omega arith) (omega arith))
+unfolding whole_order
+returns-then-first-eq0 c = c.cmp-digits.ensures ∙ zero_decides _ _ c.requires.0 c.requires.1 c.then-first-eq0.either
 
 pub returns : goal.returns
+unfolding whole_order
 returns c =
-    let s = c in
-    c.whole_order-2.ensures
-    ∙ sym (exponent_equal s.args.first s.args.second s.requires.0 s.requires.1 (omega arith))
+    c.then.ensures
+    ∙ ap₂ ordering_then c.cmp.ensures c.cmp-digits.ensures
+    ∙ exponents_first _ _ c.requires.0 c.requires.1 c.if-first-eq0.false c.if-second-eq0.false

@@ -1,61 +1,36 @@
 -- `image::scan_bytes` meets its contract. The loop's invariant is `Reading`: what was read and what is left make the whole.
--- The measure is what is left of the length. Assumes nothing.
+-- The measure is the length of what is left. Assumes nothing.
 use Rattle.std.proofs.Common.{refl, arith}
-use Rattle.decimal.proofs.StepLaws.{reading_starts, reading_steps, reading_ends, step_some, step_few}
+use Rattle.std.proofs.lemmas.List.{take_rest}
+use Rattle.decimal.proofs.StepLaws.{reading_starts, reading_steps, reading_ends}
 use Rattle.decimal.proofs.image.scan_bytes.Goals as goal
 
-pub loop-at-init : goal.loop-at-init
-loop-at-init c = reading_starts c.args.bytes.now
-
-pub overflow_mul-integer : goal.overflow_mul-integer
-overflow_mul-integer c =
-    let s = c in
-    let l = s in
-    let few = step_few l.loop-at.invariant l.loop-at-test.true s.next_state-state.ensures s.step_length-step.ensures c.integer_hash.ensures refl in
-    omega arith
+pub loop-rest-init : goal.loop-rest-init
+loop-rest-init c = reading_starts c.args.bytes.now
 
 pub overflow_add-integer : goal.overflow_add-integer
 overflow_add-integer c =
-    let s = c in
-    let l = s in
-    let next = reading_steps l.loop-at.invariant l.loop-at-test.true s.next_state-state.ensures s.step_length-step.ensures c.integer_hash.ensures refl in
-    omega (arith, next.few, next.inside)
-
-pub overflow_mul-fraction : goal.overflow_mul-fraction
-overflow_mul-fraction c =
-    let s = c in
-    let l = s in
-    let few = step_few l.loop-at.invariant l.loop-at-test.true s.next_state-state.ensures s.step_length-step.ensures c.integer_hash.ensures c.fraction_hash.ensures in
-    omega arith
+    let s = reading_steps {k = c.max-step.result} c.loop-rest.rest.now c.loop-rest.invariant (omega arith) c.next_state-state.ensures (omega arith) c.integer_hash.ensures refl in
+    omega (arith, s.few)
 
 pub overflow_add-fraction : goal.overflow_add-fraction
 overflow_add-fraction c =
-    let s = c in
-    let l = s in
-    let next = reading_steps l.loop-at.invariant l.loop-at-test.true s.next_state-state.ensures s.step_length-step.ensures c.integer_hash.ensures c.fraction_hash.ensures in
-    omega (arith, next.few, next.inside)
+    let s = reading_steps {k = c.max-step.result} c.loop-rest.rest.now c.loop-rest.invariant (omega arith) c.next_state-state.ensures (omega arith) c.integer_hash.ensures c.fraction_hash.ensures in
+    omega (arith, s.few)
 
-pub overflow_add-at : goal.overflow_add-at
-overflow_add-at c =
-    let s = c in
-    let l = s in
-    let next = reading_steps l.loop-at.invariant l.loop-at-test.true s.next_state-state.ensures s.step_length-step.ensures c.integer_hash.ensures c.fraction_hash.ensures in
-    omega (arith, next.inside)
+pub slice_bounds-rest-count : goal.slice_bounds-rest-count
+slice_bounds-rest-count c =
+    (reading_steps {k = c.max-step.result} c.loop-rest.rest.now c.loop-rest.invariant (omega arith) c.next_state-state.ensures (omega arith) c.integer_hash.ensures c.fraction_hash.ensures).inside
 
-pub loop-at-smaller : goal.loop-at-smaller
-loop-at-smaller c =
-    let s = c in
-    let l = s in
-    omega (
-      arith,
-      step_some l.loop-at.invariant l.loop-at-test.true s.next_state-state.ensures s.step_length-step.ensures c.integer_hash.ensures c.fraction_hash.ensures,
-    )
-
-pub loop-at-preserved : goal.loop-at-preserved
-loop-at-preserved c =
-    let s = c in
-    let l = s in
-    reading_steps l.loop-at.invariant l.loop-at-test.true s.next_state-state.ensures s.step_length-step.ensures c.integer_hash.ensures c.fraction_hash.ensures
+pub loop-rest-preserved : goal.loop-rest-preserved
+loop-rest-preserved c =
+    rw (take_rest c.loop-rest.rest.now c.max-step.result)
+    (reading_steps {k = c.max-step.result} c.loop-rest.rest.now c.loop-rest.invariant (omega arith) c.next_state-state.ensures (omega arith) c.integer_hash.ensures c.fraction_hash.ensures).reading
 
 pub returns : goal.returns
-returns c = reading_ends c.loop-at.invariant c.loop-at-test.false
+returns c = reading_ends c.loop-rest.rest.now c.loop-rest.invariant (omega arith)
+
+pub slice_bounds-rest-start : goal.slice_bounds-rest-start
+slice_bounds-rest-start c =
+    let inside = (reading_steps {k = c.max-step.result} c.loop-rest.rest.now c.loop-rest.invariant (omega arith) c.next_state-state.ensures (omega arith) c.integer_hash.ensures c.fraction_hash.ensures).inside in
+    omega arith

@@ -1,28 +1,23 @@
 -- `fit` meets its contract: the image's check, the number's and the limits, in document 01's order. Assumes nothing.
 use Rattle.std.proofs.Common.{sym, ap, ◌∙◌}
-use Rattle.decimal.specs.Image.{image_meaning}
 use Rattle.decimal.specs.Answer.{checked_only}
-use Rattle.decimal.proofs.TruncationLaws.{truncation_image_refused, truncation_abnormal, truncation_limited}
+use Rattle.decimal.proofs.AnswerLaws.{passed_on}
+use Rattle.decimal.proofs.TruncationLaws.{truncation_image_refused, truncation_number_refused, truncation_limited}
+use Rattle.decimal.proofs.KeptLaws.{fits_on_ok}
 use Rattle.decimal.proofs.truncation.fit.Goals as goal
 
-pub returns-in-Refused : goal.returns-in-Refused
+pub returns-in_err-checked-clause-answer : goal.returns-in_err-checked-clause-answer
 unfolding checked_only
-returns-in-Refused c =
-    let refusal = c.in-Refused.is in
-    let checked = c.checked.ensures in
-    sym (ap checked_only (truncation_image_refused _ _ _ (sym checked ∙ ap image_meaning refusal)))
+returns-in_err-checked-clause-answer c =
+    passed_on _ _ c.from_residual.ensures.1 ∙ sym (ap checked_only (truncation_image_refused _ _ _ (sym c.in_err-checked.ensures)))
 
-pub returns-then-is_normal : goal.returns-then-is_normal
-returns-then-is_normal c =
-    let n = c in
-    let checked = sym n.checked.ensures ∙ ap image_meaning n.in_default.is in
-    let is_normal = sym n.is_normal.ensures ∙ c.if-is_normal.true in
-    c.limits.ensures ∙ sym (ap checked_only (truncation_limited _ _ _ checked is_normal))
+pub returns-in_err-checked-2-clause-answer : goal.returns-in_err-checked-2-clause-answer
+unfolding checked_only
+returns-in_err-checked-2-clause-answer c =
+    passed_on _ _ c.from_residual-in_err-checked-2.ensures.1
+    ∙ sym (ap checked_only (truncation_number_refused _ _ _ (sym c.in_ok-checked.ensures) (sym c.in_err-checked-2.ensures.answer)))
 
 pub returns : goal.returns
-unfolding checked_only
 returns c =
-    let n = c in
-    let checked = sym n.checked.ensures ∙ ap image_meaning n.in_default.is in
-    let abnormal = sym n.is_normal.ensures ∙ c.if-is_normal.false in
-    c.refused.ensures ∙ sym (ap checked_only (truncation_abnormal _ _ _ checked abnormal))
+    let answered = c.limits.ensures ∙ sym (ap checked_only (truncation_limited _ _ _ (sym c.in_ok-checked.ensures) c.in_ok-checked-2.ensures.form)) in
+    record { fits = fits_on_ok _ _ _ _ answered; answer = answered }

@@ -1,46 +1,29 @@
 -- `fit_packed` meets its contract: what `fit` says, and then the limit of packing. Assumes nothing.
 use Rattle.std.proofs.Common.{sym, ap, ◌∙◌, arith, ltb-true, ltb-false}
-use Rattle.decimal.specs.Answer.{checked_only, check_meaning}
-use Rattle.decimal.proofs.TruncationLaws.{packed_refused, packed_signed, packed_negative, packed_unsigned}
-use Rattle.decimal.proofs.KeptLaws.{checked_refused, checked_fits}
+use Rattle.decimal.specs.Answer.{checked_only}
+use Rattle.decimal.proofs.AnswerLaws.{passed_on}
+use Rattle.decimal.proofs.TruncationLaws.{packed_refused, packed_signed, packed_negative, packed_within}
+use Rattle.decimal.proofs.KeptLaws.{checked_refused}
 use Rattle.decimal.proofs.truncation.fit_packed.Goals as goal
+use Rattle.decimal.proofs.truncation.fit_packed.Goals.{else-below-via-then-below+else-not-is_signed, else-below-via-else-below}
 
-pub returns-in-Refused : goal.returns-in-Refused
+pub returns-in_err-fit-clause-answer : goal.returns-in_err-fit-clause-answer
 unfolding checked_only
-returns-in-Refused c =
-    let answer = sym c.fit.ensures ∙ ap check_meaning c.in-Refused.is in
-    sym (ap checked_only (packed_refused _ _ _ (checked_refused _ answer)))
+returns-in_err-fit-clause-answer c =
+    passed_on _ _ c.from_residual.ensures.1 ∙ sym (ap checked_only (packed_refused _ _ _ (checked_refused _ (sym c.in_err-fit.ensures.answer))))
 
-pub returns-then-is_signed : goal.returns-then-is_signed
+pub returns-then-not-is_signed-clause-answer : goal.returns-then-not-is_signed-clause-answer
 unfolding checked_only
-returns-then-is_signed c =
-    let s = c in
-    let t = s in
-    let fits = checked_fits _ _ _ (sym t.fit.ensures ∙ ap check_meaning t.in_default.is) in
-    sym (ap checked_only (packed_signed _ _ _ fits (sym s.is_signed.ensures ∙ c.if-is_signed.true)))
+returns-then-not-is_signed-clause-answer c =
+    sym
+    (ap checked_only
+    (packed_negative _ _ _ c.in_ok-fit.ensures.fits (sym c.if-not-is_signed.ensures) (omega (arith, c.stored_exponent-below.ensures, ltb-true))))
 
-pub stored_exponent-below-requires : goal.stored_exponent-below-requires
-stored_exponent-below-requires c =
-    let t = c in
-    checked_fits _ _ _ (sym t.fit.ensures ∙ ap check_meaning t.in_default.is)
-
-pub returns-then-below : goal.returns-then-below
+pub returns-clause-answer : goal.returns-clause-answer
 unfolding checked_only
-returns-then-below c =
-    let x = c in
-    let s = x in
-    let t = s in
-    let fits = checked_fits _ _ _ (sym t.fit.ensures ∙ ap check_meaning t.in_default.is) in
-    let unsigned = sym s.is_signed.ensures ∙ x.if-is_signed.false in
-    c.refused.ensures
-    ∙ sym (ap checked_only (packed_negative _ _ _ fits unsigned (omega (arith, x.stored_exponent-below.ensures, ltb-true))))
-
-pub returns : goal.returns
-unfolding checked_only
-returns c =
-    let x = c in
-    let s = x in
-    let t = s in
-    let fits = checked_fits _ _ _ (sym t.fit.ensures ∙ ap check_meaning t.in_default.is) in
-    let unsigned = sym s.is_signed.ensures ∙ x.if-is_signed.false in
-    sym (ap checked_only (packed_unsigned _ _ _ fits unsigned (omega (arith, x.stored_exponent-below.ensures, ltb-false))))
+returns-clause-answer c =
+    let fit = c.in_ok-fit.ensures.fits in
+    elim c.else-below.branch [
+      | else-below-via-then-below+else-not-is_signed w ↦ sym (ap checked_only (packed_signed _ _ _ fit (sym w.is_signed.ensures ∙ w.if-not-is_signed.false)))
+      | else-below-via-else-below w ↦ sym (ap checked_only (packed_within _ _ _ fit (omega (arith, c.stored_exponent-below.ensures, ltb-false))))
+    ]

@@ -9,7 +9,7 @@ unfolding checked_only
 returns-then-exponent_outside c =
     let o = c in
     let outside = sym o.exponent_outside.ensures ∙ c.if-exponent_outside.true in
-    c.refused.ensures ∙ sym (ap checked_only (limited_exponent _ _ _ o.if-image.true outside))
+    sym (ap checked_only (limited_exponent _ _ _ o.if-image.true outside))
 
 pub returns-then-image : goal.returns-then-image
 unfolding checked_only
@@ -23,7 +23,7 @@ unfolding checked_only
 returns-then-exceeds c =
     let o = c in
     let over = sym o.exceeds.ensures ∙ c.if-exceeds.true in
-    c.refused-then-exceeds.ensures ∙ sym (ap checked_only (limited_exceeds _ _ _ o.if-image.false over))
+    sym (ap checked_only (limited_exceeds _ _ _ o.if-image.false over))
 
 pub returns : goal.returns
 unfolding checked_only

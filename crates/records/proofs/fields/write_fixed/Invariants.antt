@@ -1,20 +1,11 @@
--- `write_fixed` meets its contract. The loop's invariant: the first j bytes of the filled field are written, from the place on, and `Filling`
--- says what is still to come. The measure is what is left of the field. Assumes nothing.
-use Prim.Native.Nat.{◌-◌, ◌≤◌}
-use mathlib.Core.Path.{◌≡◌}
-use lib.ListN.{length}
-use lib.Seq.{paste}
+-- `write_fixed` meets its contract. The loop's invariant: the filled bytes and those that are still to come make the filled field, and there
+-- are digits left for it. Assumes nothing.
 use Rattle.codec.specs.Packing.{held_by}
 use Rattle.records.specs.Fields.{fill_bytes, nothing_filled}
 use Rattle.records.proofs.FieldLaws.{Filling}
 use Rattle.records.proofs.fields.write_fixed.Given as goal
 
-abbrev pub invariant-loop-j : goal.invariant-loop-j
-invariant-loop-j l =
-    (l.j ≤ length l.field)
-    × (length l.buffer ≡ length l.initial.buffer)
-    × (l.buffer ≡ paste l.initial.buffer l.at (fill_bytes l.marks l.image (held_by l.truncation) nothing_filled l.field) l.j)
-    × Filling l.marks l.image (held_by l.truncation) l.field l.fill l.j
-
-abbrev pub decreases-loop-j : goal.decreases-loop-j
-decreases-loop-j l = length l.field - l.j
+abbrev pub invariant-loop-byte : goal.invariant-loop-byte
+invariant-loop-byte l =
+    Filling l.marks l.image (held_by l.truncation) (fill_bytes l.marks l.image (held_by l.truncation) nothing_filled l.initial.field) l.field
+    l.fill l.byte-index

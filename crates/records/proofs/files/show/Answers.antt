@@ -1,39 +1,24 @@
 -- `show` meets its contract: refused as the file is, then with 12; else where the body stands. Assumes nothing.
-use mathlib.Core.Path.{sym}
-use native.Mathlib.Omega.{arith}
-use Rattle.codec.proofs.ContentsLaws.{told_refused}
-use Rattle.records.specs.Files.{read_file}
+use Rattle.std.proofs.Common.{sym, ◌∙◌}
+use Rattle.decimal.proofs.AnswerLaws.{passed_on, mapped_done, mapped_refused, mapped_refused_back}
+use Rattle.codec.specs.Contents.{contents_of}
+use Rattle.records.specs.Files.{range_of}
 use Rattle.records.proofs.FileLaws.{shown_refused, read_within, read_some, read_none, read_shown}
 use Rattle.records.proofs.files.show.Goals as goal
 
-pub returns-in-Refused : goal.returns-in-Refused
-returns-in-Refused c =
-    let f = c in
-    let a = f.args in
-    sym
-    (shown_refused _ a.index
-    (told_refused (read_file a.file.now) f.read_file-table.result _ f.read_file-table.ensures c.in-Refused.is))
+pub returns-in_err-table : goal.returns-in_err-table
+returns-in_err-table c =
+    passed_on _ _ c.from_residual.ensures.1
+    ∙ sym (mapped_refused range_of (shown_refused _ c.args.index (mapped_refused_back contents_of _ c.in_err-table.ensures)))
 
 pub overflow_sub-file : goal.overflow_sub-file
-overflow_sub-file c =
-    let f = c in
-    read_within f.args.file.now f.read_file-table.result f.read_file-table.ensures c.in_default.is
+overflow_sub-file c = read_within c.args.file.now c.in_ok-table.ensures
 
 pub nonzero_div-file : goal.nonzero_div-file
-nonzero_div-file c =
-    let f = c in
-    read_some f.args.file.now f.read_file-table.result f.read_file-table.ensures c.in_default.is
+nonzero_div-file c = read_some c.args.file.now c.in_ok-table.ensures
 
 pub returns-then-file-table : goal.returns-then-file-table
-returns-then-file-table c =
-    let f = c in
-    let a = f.args in
-    let told = c.in_default.is in
-    sym (read_none a.file.now f.read_file-table.result f.read_file-table.ensures told a.index (omega arith))
+returns-then-file-table c = sym (mapped_refused range_of (read_none c.args.file.now c.in_ok-table.ensures c.args.index c.if-file-table.true))
 
 pub returns : goal.returns
-returns c =
-    let f = c in
-    let a = f.args in
-    let told = c.in_default.is in
-    sym (read_shown a.file.now f.read_file-table.result f.read_file-table.ensures told a.index (omega arith))
+returns c = sym (mapped_done range_of (read_shown c.args.file.now c.in_ok-table.ensures c.args.index c.if-file-table.false))

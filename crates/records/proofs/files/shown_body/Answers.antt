@@ -1,35 +1,20 @@
 -- `shown_body` meets its contract: the part that `show` finds. Assumes nothing.
-use mathlib.Core.Path.{ap, sym, ◌∙◌}
-use native.Mathlib.Omega.{arith}
-use borrow.Author.Rules.{rules}
-use Rattle.records.specs.Files.{show_meaning}
-use Rattle.records.proofs.FileLaws.{shown_inside, part_between, part_refused}
+use Rattle.decimal.proofs.AnswerLaws.{mapped_refused_back}
+use Rattle.records.specs.Files.{range_of}
+use Rattle.records.proofs.FileLaws.{range_shown, part_refused}
 use Rattle.records.proofs.files.shown_body.Goals as goal
 
-pub overflow_add-end : goal.overflow_add-end
-overflow_add-end c =
-    let f = c in
-    let a = f.args in
-    let inside = shown_inside a.file.now a.index (sym f.show.ensures ∙ ap show_meaning c.in-Shown.is) in
-    omega arith
+pub slice_bounds-result-count : goal.slice_bounds-result-count
+slice_bounds-result-count c = (range_shown c.args.file.now c.args.index c.in-Ok.ensures).ordered
 
-pub slice_bounds-result-end-in-Shown : goal.slice_bounds-result-end-in-Shown
-slice_bounds-result-end-in-Shown c =
-    let f = c in
-    let a = f.args in
-    let inside = shown_inside a.file.now a.index (sym f.show.ensures ∙ ap show_meaning c.in-Shown.is) in
-    search rules
+pub slice_bounds-result-start : goal.slice_bounds-result-start
+slice_bounds-result-start c = (range_shown c.args.file.now c.args.index c.in-Ok.ensures).ordered
 
-pub returns-in-Refused : goal.returns-in-Refused
-returns-in-Refused c =
-    let f = c in
-    let a = f.args in
-    part_refused a.file.now a.index (sym f.show.ensures ∙ ap show_meaning c.in-Refused.is)
+pub slice_bounds-result-end : goal.slice_bounds-result-end
+slice_bounds-result-end c = (range_shown c.args.file.now c.args.index c.in-Ok.ensures).inside
 
-pub returns-in-Shown : goal.returns-in-Shown
-returns-in-Shown c =
-    let k = c in
-    let f = k in
-    let a = f.args in
-    part_between a.file.now a.index k.in-Shown.start k.in-Shown.size
-    (sym f.show.ensures ∙ ap show_meaning k.in-Shown.is)
+pub returns-in-Ok : goal.returns-in-Ok
+returns-in-Ok c = (range_shown c.args.file.now c.args.index c.in-Ok.ensures).part
+
+pub returns-in-Err : goal.returns-in-Err
+returns-in-Err c = part_refused c.args.file.now c.args.index (mapped_refused_back range_of _ c.in-Err.ensures)

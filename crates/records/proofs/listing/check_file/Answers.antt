@@ -1,48 +1,44 @@
--- `check_file` meets its contract. The loop's invariant: whether the bodies from the place on can be read says whether all can.
--- The measure is what is left of the file. Assumes nothing.
-use Prim.Native.Nat.{ℕ, ◌+◌}
-use mathlib.Core.Path.{ap, sym, ◌∙◌}
-use native.Mathlib.Omega.{arith}
+-- `check_file` meets its contract: refused as the file is, then as its first body that is refused. Assumes nothing.
+use Rattle.std.proofs.Common.{refl, sym, ◌∙◌, arith}
 use Rattle.codec.specs.Contents.{contents_of}
-use Rattle.codec.proofs.UnpackLaws.{unpack_refused, unpack_read}
-use Rattle.records.proofs.LinesLaws.{file_held, file_refused, part_unpacked, checking_starts, checking_inside, checking_stops, checking_turns, checking_ends}
+use Rattle.codec.specs.Lists.{items_of}
+use Rattle.decimal.proofs.AnswerLaws.{passed_on, mapped_done, mapped_refused, mapped_refused_back}
+use Rattle.records.proofs.FileLaws.{read_within}
+use Rattle.records.proofs.BodiesLaws.{some_left, none_left}
+use Rattle.records.proofs.LinesLaws.{checked_refused, checking_starts, checking_inside, checking_stops, checking_turns, checking_ends}
 use Rattle.records.proofs.listing.check_file.Goals as goal
 
-pub returns-in-Refused : goal.returns-in-Refused
-returns-in-Refused c = file_refused c.args.file.now c.read_file-table.ensures c.in-Refused.is
+pub returns-in_err-table : goal.returns-in_err-table
+returns-in_err-table c =
+    passed_on _ _ c.from_residual.ensures.1
+    ∙ sym (mapped_refused contents_of (checked_refused c.args.file.now (mapped_refused_back contents_of _ c.in_err-table.ensures)))
 
-pub loop-at-init : goal.loop-at-init
-loop-at-init c f = checking_starts c.args.file.now f.reads f.held.size
+pub slice_bounds-bodies-count : goal.slice_bounds-bodies-count
+slice_bounds-bodies-count c = read_within c.args.file.now c.in_ok-table.ensures
 
-pub read_body-record-requires : goal.read_body-record-requires
-read_body-record-requires c =
-    let f = file_held c.args.file.now c.read_file-table.ensures c.in_default.is in
-    omega (arith, checking_inside (c.loop-at.invariant f) c.loop-at-test.true, f.held.body)
+pub slice_bounds-bodies-start : goal.slice_bounds-bodies-start
+slice_bounds-bodies-start c = read_within c.args.file.now c.in_ok-table.ensures
 
-pub returns-in-Refused-found : goal.returns-in-Refused-found
-returns-in-Refused-found c =
-    let f = file_held c.args.file.now c.read_file-table.ensures c.in_default.is in
-    let body = part_unpacked f.held c.args.file.now c.loop-at.at c.read_body-record.ensures in
-    c.refused.ensures
-    ∙ sym (ap contents_of (checking_stops (c.loop-at.invariant f) c.loop-at-test.true (unpack_refused _ body c.in-Refused-found.is)))
+pub loop-bodies-init : goal.loop-bodies-init
+loop-bodies-init c = checking_starts c.args.file.now c.in_ok-table.ensures
 
-pub overflow_add-at : goal.overflow_add-at
-overflow_add-at c =
-    let f = file_held c.args.file.now c.read_file-table.ensures c.in_default.is in
-    omega (arith, checking_inside (c.loop-at.invariant f) c.loop-at-test.true, f.held.body)
+pub split_at-requires : goal.split_at-requires
+split_at-requires c = checking_inside c.loop-bodies.invariant (some_left _ c.is_empty.ensures c.loop-bodies-test.true)
 
-pub loop-at-smaller : goal.loop-at-smaller
-loop-at-smaller c =
-    let f = file_held c.args.file.now c.read_file-table.ensures c.in_default.is in
-    omega (arith, checking_inside (c.loop-at.invariant f) c.loop-at-test.true, f.held.body, f.some)
+pub returns-in_err-unpack_under : goal.returns-in_err-unpack_under
+returns-in_err-unpack_under c =
+    passed_on _ _ c.from_residual-in_err-unpack_under.ensures.1
+    ∙ sym (checking_stops c.loop-bodies.invariant (some_left _ c.is_empty.ensures c.loop-bodies-test.true) c.deref.ensures.0
+    (sym (mapped_refused items_of refl) ∙ rw c.split_at.ensures.front at c.in_err-unpack_under.ensures))
 
-pub loop-at-preserved : goal.loop-at-preserved
-loop-at-preserved c f =
-    let body = part_unpacked f.held c.args.file.now c.loop-at.at c.read_body-record.ensures in
-    checking_turns (c.loop-at.invariant f) c.loop-at-test.true f.held.sound.all (unpack_read _ body c.in_default-found.is).1
-    (ap (λ (k : ℕ). c.loop-at.at + k) f.held.body)
+pub loop-bodies-smaller : goal.loop-bodies-smaller
+loop-bodies-smaller c = omega (arith, c.split_at.ensures.back_len, c.loop-bodies.invariant.some)
+
+pub loop-bodies-preserved : goal.loop-bodies-preserved
+loop-bodies-preserved c =
+    rw c.split_at.ensures.back
+    (checking_turns c.loop-bodies.invariant (some_left _ c.is_empty.ensures c.loop-bodies-test.true) c.deref.ensures.0
+    (sym (mapped_done items_of refl) ∙ rw c.split_at.ensures.front at c.in_ok-unpack_under.ensures))
 
 pub returns : goal.returns
-returns c =
-    let f = file_held c.args.file.now c.read_file-table.ensures c.in_default.is in
-    c.read_file-table.ensures ∙ ap contents_of (f.reads ∙ sym (checking_ends (c.loop-at.invariant f) f.some c.loop-at-test.false))
+returns c = checking_ends c.loop-bodies.invariant (none_left _ c.is_empty.ensures c.loop-bodies-test.false)

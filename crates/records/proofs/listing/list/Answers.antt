@@ -1,29 +1,20 @@
 -- `list` meets its contract: refused as the file is, else listed. Assumes nothing.
-use lib.ListN.{length}
-use Rattle.codec.proofs.ContentsLaws.{told_refused}
+use Rattle.std.proofs.Common.{length, ◌∙◌}
+use Rattle.decimal.proofs.AnswerLaws.{passed_on, mapped_refused_back}
+use Rattle.codec.specs.Contents.{contents_of}
 use Rattle.codec.proofs.AlphaLaws.{refused_answers}
-use Rattle.records.specs.Listing.{checked_file, listed}
+use Rattle.records.specs.Listing.{listed}
 use Rattle.records.proofs.LinesLaws.{listed_made}
 use Rattle.records.proofs.ListingLaws.{listed_refused}
 use Rattle.records.proofs.listing.list.Goals as goal
 
-pub returns-in-Refused : goal.returns-in-Refused
-returns-in-Refused c =
-    let n = c in
-    let f = n in
-    let a = f.args in
-    let r = f.check_file-table.result in
-    let all = refused_answers (listed a.file.now (length a.buffer.now)) a.buffer.now
-    (listed_refused a.file.now (length a.buffer.now)
-    (told_refused (checked_file a.file.now) r n.in-Refused.refusal f.check_file-table.ensures n.in-Refused.is)) in record { answer = all.0; bytes = all.1 }
+pub returns-in_err-table : goal.returns-in_err-table
+returns-in_err-table c =
+    let a = c.args in
+    let room = length a.buffer.now in
+    let all = refused_answers (listed a.file.now room) a.buffer.now
+    (listed_refused a.file.now room (mapped_refused_back contents_of _ c.in_err-table.ensures)) in
+    record { answer = passed_on _ _ c.from_residual.ensures.1 ∙ all.0; bytes = all.1 }
 
 pub list_checked-requires : goal.list_checked-requires
-list_checked-requires c =
-    let t = c in
-    let f = t in
-    let a = f.args in
-    listed_made a.file.now f.check_file-table.ensures t.in_default.is
-
-pub returns : goal.returns
-returns c =
-    record { answer = c.list_checked.ensures.answer; bytes = c.list_checked.ensures.bytes }
+list_checked-requires c = listed_made c.args.file.now c.in_ok-table.ensures

@@ -1,119 +1,77 @@
 -- `list_checked` meets its contract: the listing's length is what the code measures, and its three parts are written one behind the
 -- other. Assumes nothing.
-use Prim.Native.Nat.{◌+◌, ◌≤◌}
-use mathlib.Core.Path.{◌∙◌}
-use mathlib.Core.List.{◌++◌}
-use native.Mathlib.Omega.{arith}
-use lib.ListN.{length}
-use Rattle.codec.proofs.BufferLaws.{written_stored}
+use Rattle.std.proofs.Common.{◌≡◌, ◌+◌, length, ap, sym, ◌∙◌, arith}
+use Rattle.std.proofs.lemmas.List.{length-take-le}
 use Rattle.codec.proofs.AlphaLaws.{refused_answers, done_answers}
-use Rattle.records.specs.Listing.{lines_of, listed}
-use Rattle.records.proofs.WritingLaws.{decimal_few}
-use Rattle.records.proofs.ReportLaws.{within_some}
-use Rattle.records.proofs.LinesLaws.{listed_held}
-use Rattle.records.proofs.ListingLaws.{
-  parts_length,
-  parts_written,
-  records_of,
-  first_line,
-  last_line,
-  listed_parts,
-  listed_sizes,
-  measured_long,
-  measured_short,
-}
+use Rattle.records.specs.Listing.{count_line, columns_word, records_word, lines_of, listed}
+use Rattle.records.proofs.WritingLaws.{counted_few, parts_stored}
+use Rattle.records.proofs.ReportLaws.{count_line_length}
+use Rattle.records.proofs.LinesLaws.{records_of, first_line, last_line, listed_length, held_listed}
+use Rattle.records.proofs.ListingLaws.{listed_some, measured, measured_long, measured_short, measured_done}
 use Rattle.records.proofs.listing.list_checked.Goals as goal
 
 pub overflow_sub-records : goal.overflow_sub-records
-overflow_sub-records c = (listed_sizes (listed_held c.requires)).2
+overflow_sub-records c = (held_listed c.requires).within
 
 pub nonzero_div-records : goal.nonzero_div-records
-nonzero_div-records c = (listed_sizes (listed_held c.requires)).0
+nonzero_div-records c = (held_listed c.requires).some
 
-pub overflow_add-others : goal.overflow_add-others
-overflow_add-others c = omega (arith, c.decimal_length.ensures, decimal_few c.args.table.images.count)
+pub overflow_sub-line : goal.overflow_sub-line
+overflow_sub-line c = omega (arith, listed_some (held_listed c.requires))
 
-pub overflow_add-others-2 : goal.overflow_add-others-2
-overflow_add-others-2 c =
-    let a = c.args in
-    omega (
-      arith,
-      c.decimal_length.ensures,
-      c.decimal_length-2.ensures,
-      decimal_few a.table.images.count,
-      decimal_few (records_of a.file.now a.table),
-    )
+pub overflow_add-first : goal.overflow_add-first
+overflow_add-first c = omega (arith, counted_few _ c.decimal_length-first.ensures)
 
-pub overflow_sub-table : goal.overflow_sub-table
-overflow_sub-table c = omega (arith, (listed_sizes (listed_held c.requires)).1)
+pub overflow_add-last : goal.overflow_add-last
+overflow_add-last c = omega (arith, counted_few _ c.decimal_length-last.ensures)
+
+pub overflow_add-first-2 : goal.overflow_add-first-2
+overflow_add-first-2 c = omega (arith, counted_few _ c.decimal_length-first.ensures, counted_few _ c.decimal_length-last.ensures)
 
 pub is_longer-requires : goal.is_longer-requires
-is_longer-requires c = omega (arith, (listed_sizes (listed_held c.requires)).1)
+is_longer-requires c = omega (arith, listed_some (held_listed c.requires))
 
 pub returns-then-is_longer : goal.returns-then-is_longer
 returns-then-is_longer c =
     let a = c.args in
-    let h = listed_held c.requires in
-    let long =
-    measured_long h (length a.buffer.now) c.decimal_length.ensures c.decimal_length-2.ensures c.is_longer.ensures c.if-is_longer.true in
-    let found = refused_answers (listed a.file.now (length a.buffer.now)) a.buffer.now long in
-    record { answer = c.no_room.ensures ∙ found.0; bytes = found.1 }
-
-pub write_count-start-requires : goal.write_count-start-requires
-write_count-start-requires c =
-    let a = c.args in
-    let h = listed_held c.requires in
-    let first = first_line a.table in
-    let lines = lines_of a.file.now in
-    let last = last_line a.file.now a.table in
-    let fits : length first + length lines + length last ≤ length a.buffer.now =
-    measured_short h (length a.buffer.now) c.decimal_length.ensures c.decimal_length-2.ensures c.is_longer.ensures c.if-is_longer.false in
-    omega (arith, fits)
-
-pub write_records-end-requires : goal.write_records-end-requires
-write_records-end-requires c =
-    let a = c.args in
-    let h = listed_held c.requires in
-    let first = first_line a.table in
-    let lines = lines_of a.file.now in
-    let last = last_line a.file.now a.table in
-    let fits : length first + length lines + length last ≤ length a.buffer.now =
-    measured_short h (length a.buffer.now) c.decimal_length.ensures c.decimal_length-2.ensures c.is_longer.ensures c.if-is_longer.false in
-    (c.requires, omega (arith, fits, c.write_count-start.ensures.place, c.write_count-start.auto.buffer))
+    let room = length a.buffer.now in
+    let long = measured_long (held_listed c.requires) room c.len-columns.ensures.value c.decimal_length-first.ensures c.decimal_length-last.ensures c.is_longer.ensures c.if-is_longer.true in
+    let all = refused_answers (listed a.file.now room) a.buffer.now long in
+    record { answer = all.0; bytes = all.1 }
 
 pub write_count-requires : goal.write_count-requires
-write_count-requires c =
+write_count-requires c = omega (arith, c.split_at_mut-head.ensures.front_len, c.decimal_length-first.ensures, count_line_length columns_word c.len-columns.result)
+
+pub write_records-requires : goal.write_records-requires
+write_records-requires c = (c.requires, omega (arith, c.split_at_mut-lines.ensures.front_len, listed_length (held_listed c.requires)))
+
+pub write_count-requires-2 : goal.write_count-requires-2
+write_count-requires-2 c =
     let a = c.args in
-    let h = listed_held c.requires in
-    let first = first_line a.table in
-    let lines = lines_of a.file.now in
-    let last = last_line a.file.now a.table in
-    let fits : length first + length lines + length last ≤ length a.buffer.now =
-    measured_short h (length a.buffer.now) c.decimal_length.ensures c.decimal_length-2.ensures c.is_longer.ensures c.if-is_longer.false in
+    let short = measured_short (held_listed c.requires) (length a.buffer.now) c.len-columns.ensures.value c.decimal_length-first.ensures c.decimal_length-last.ensures c.is_longer.ensures c.if-is_longer.false in
+    let last = c.split_at_mut-lines.result.1.now in
     omega (
       arith,
-      fits,
-      c.write_count-start.ensures.place,
-      c.write_records-end.ensures.place,
-      c.write_count-start.auto.buffer,
-      c.write_records-end.auto.buffer,
+      length-take-le (9 + c.decimal_length-last.result) last (omega (arith, short, c.split_at_mut-head.ensures.back_len, c.split_at_mut-lines.ensures.back_len)),
+      c.decimal_length-last.ensures,
+      count_line_length records_word (records_of a.file.now a.table.now),
     )
 
 pub returns : goal.returns
 returns c =
     let a = c.args in
-    let h = listed_held c.requires in
-    let first = first_line a.table in
-    let lines = lines_of a.file.now in
-    let last = last_line a.file.now a.table in
-    let fits : length first + length lines + length last ≤ length a.buffer.now =
-    measured_short h (length a.buffer.now) c.decimal_length.ensures c.decimal_length-2.ensures c.is_longer.ensures c.if-is_longer.false in
-    let b = a.buffer.now in
-    let text = first ++ (lines ++ last) in
-    let long = parts_length first lines last in
-    let room : length text ≤ length b = omega (arith, fits, long) in
-    let all = done_answers (listed a.file.now (length b)) b (listed_parts h (length b) ∙ within_some (length b) text room)
-    (omega (arith, long, c.write_count-start.ensures.place, c.write_records-end.ensures.place, c.write_count.ensures.place))
-    (parts_written b first lines last room c.write_count-start.ensures.place c.write_records-end.ensures.place
-    c.write_count-start.ensures.bytes c.write_records-end.ensures.bytes c.write_count.ensures.bytes
-    ∙ written_stored b text) in record { answer = all.0; bytes = all.1 }
+    let f = held_listed c.requires in
+    let room = length a.buffer.now in
+    let given = measured_done f room c.len-columns.ensures.value c.decimal_length-first.ensures c.decimal_length-last.ensures c.is_longer.ensures c.if-is_longer.false in
+    let columns = c.len-columns.ensures.value in
+    let first : 9 + c.decimal_length-first.result ≡ length (count_line columns_word c.len-columns.result) =
+    omega (arith, c.decimal_length-first.ensures, count_line_length columns_word c.len-columns.result) in
+    let last : 9 + c.decimal_length-last.result ≡ length (last_line a.file.now a.table.now) =
+    omega (arith, c.decimal_length-last.ensures, count_line_length records_word (records_of a.file.now a.table.now)) in
+    let head = ap (count_line columns_word) columns in
+    let all = done_answers (listed a.file.now room) a.buffer.now given
+    (measured f room columns c.decimal_length-first.ensures c.decimal_length-last.ensures c.is_longer.ensures)
+    (parts_stored a.buffer.now (first_line a.table.now) (lines_of a.file.now) (last_line a.file.now a.table.now)
+    (first ∙ ap length head) (sym (listed_length f)) last c.split_at_mut-head.ensures.back c.split_at_mut-lines.ensures.back
+    (c.write_count.ensures ∙ head) c.write_records.ensures c.write_count-2.ensures) in
+    record { answer = all.0; bytes = all.1 }

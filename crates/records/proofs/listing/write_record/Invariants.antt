@@ -1,17 +1,11 @@
--- `write_record` meets its contract. The loop's invariant: the texts of the first columns are written, parted by one blank.
--- The measure is what is left of the columns. Assumes nothing.
-use Prim.Native.Nat.{◌-◌, ◌≤◌}
-use lib.ListN.{take}
+-- `write_record` meets its contract. The loop's invariant: what stands, and what comes behind the first columns' texts, are the line.
+-- Assumes nothing.
 use Rattle.decimal.specs.Answer.{given}
 use Rattle.codec.specs.Alpha.{alpha_texts}
-use Rattle.records.proofs.RecordLaws.{Texting}
+use Rattle.records.specs.Listing.{record_line}
+use Rattle.records.proofs.RecordLaws.{line_rest}
+use Rattle.records.proofs.WritingLaws.{Coming}
 use Rattle.records.proofs.listing.write_record.Given as goal
 
 abbrev pub invariant-loop-column : goal.invariant-loop-column
-invariant-loop-column l =
-    (l.column ≤ l.count)
-    × Texting (given (alpha_texts (take l.images.count l.images.values) (take l.images.count l.numbers.values))) l.initial.buffer l.from l.buffer
-    l.out l.column
-
-abbrev pub decreases-loop-column : goal.decreases-loop-column
-decreases-loop-column l = l.count - l.column
+invariant-loop-column l = Coming l.target l.out (line_rest l.column (given (alpha_texts l.images l.numbers))) (record_line (given (alpha_texts l.images l.numbers)))

@@ -1,13 +1,11 @@
--- `write_records` meets its contract. The loop's invariant: the lines that are written, and those of the bodies from the place on, are
--- all. The measure is what is left of the file. Assumes nothing.
-use Prim.Native.Nat.{◌-◌}
-use lib.ListN.{length}
-use Rattle.records.proofs.LinesLaws.{ListedHeld, Lining}
+-- `write_records` meets its contract. The loop's invariant: the lines that are written, and those of the bodies that are left, are all. The
+-- measure is the bytes that are left. Assumes nothing.
+use Rattle.std.specs.Prelude.{length}
+use Rattle.records.proofs.LinesLaws.{Lining}
 use Rattle.records.proofs.listing.write_records.Given as goal
 
-abbrev pub invariant-loop-at : goal.invariant-loop-at
-invariant-loop-at l =
-    (h : ListedHeld l.file l.table) → Lining l.file h.table l.initial.buffer l.from l.buffer l.out l.at
+abbrev pub invariant-loop-bodies : goal.invariant-loop-bodies
+invariant-loop-bodies l = Lining l.file l.table l.target l.out l.bodies
 
-abbrev pub decreases-loop-at : goal.decreases-loop-at
-decreases-loop-at l = length l.file - l.at
+abbrev pub decreases-loop-bodies : goal.decreases-loop-bodies
+decreases-loop-bodies l = length l.bodies

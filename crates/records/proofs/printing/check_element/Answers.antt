@@ -1,36 +1,30 @@
 -- `printing::check_element` meets its contract: a number by its form, a text by its end. Assumes nothing.
 use native.Mathlib.Omega.{arith}
-use mathlib.Core.Path.{sym, ◌∙◌}
-use Rattle.records.proofs.CheckLaws.{number_checked, number_refused, text_checked, text_refused}
+use mathlib.Core.Path.{ap, sym, ◌∙◌}
+use Rattle.decimal.specs.Answer.{checked_only}
+use Rattle.decimal.proofs.AnswerLaws.{passed_on}
+use Rattle.records.proofs.CheckLaws.{number_element, text_checked, text_refused}
 use Rattle.records.proofs.printing.check_element.Goals as goal
+use Rattle.records.proofs.printing.check_element.Goals.{then-room-start-via-then-room-start, then-room-start-via-else-room-start+then-room-start-2}
 
-pub returns-then-is_normal : goal.returns-then-is_normal
-returns-then-is_normal c =
-    let n = c in
-    let a = n.args in
-    sym (number_checked a.room a.index n.in-Number.is (sym n.is_normal.ensures ∙ c.if-is_normal.true))
+pub returns-in_err-checked-in-Number : goal.returns-in_err-checked-in-Number
+unfolding checked_only
+returns-in_err-checked-in-Number c =
+    passed_on _ _ c.from_residual.ensures.1 ∙ ap checked_only c.in_err-checked-in-Number.ensures.answer
+    ∙ sym (number_element c.args.room c.args.index c.in-Number.is)
+
+pub returns-in_ok-checked-in-Number : goal.returns-in_ok-checked-in-Number
+unfolding checked_only
+returns-in_ok-checked-in-Number c = ap checked_only c.in_ok-checked-in-Number.ensures.answer ∙ sym (number_element c.args.room c.args.index c.in-Number.is)
 
 pub returns-then-room-start : goal.returns-then-room-start
 returns-then-room-start c =
-    let k = c in
-    let a = k.args in
-    c.refused-then-room-start.ensures ∙ sym (text_refused a.room a.index k.in-Text.is (omega (arith, c.if-room-start.true)))
-
-pub returns-then-room-start-2 : goal.returns-then-room-start-2
-returns-then-room-start-2 c =
-    let k = c in
-    let a = k.args in
-    c.refused-then-room-start-2.ensures ∙ sym (text_refused a.room a.index k.in-Text.is (omega (arith, c.if-room-start-2.true)))
-
-pub returns-else-is_normal : goal.returns-else-is_normal
-returns-else-is_normal c =
-    let n = c in
-    let a = n.args in
-    c.refused.ensures
-    ∙ sym (number_refused a.room a.index n.in-Number.is (sym n.is_normal.ensures ∙ c.if-is_normal.false))
+    sym
+    (text_refused c.args.room c.args.index c.in-Text.is
+    (elim c.then-room-start.branch [
+      | then-room-start-via-then-room-start w ↦ omega (arith, w.if-room-start.true)
+      | then-room-start-via-else-room-start+then-room-start-2 w ↦ omega (arith, w.if-room-start-2.true)
+    ]))
 
 pub returns-else-room-start-2 : goal.returns-else-room-start-2
-returns-else-room-start-2 c =
-    let k = c in
-    let a = k.args in
-    sym (text_checked a.room a.index k.in-Text.is (omega (arith, c.if-room-start-2.false)))
+returns-else-room-start-2 c = sym (text_checked c.args.room c.args.index c.in-Text.is (omega (arith, c.if-room-start-2.false)))

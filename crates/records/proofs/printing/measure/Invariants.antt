@@ -1,15 +1,19 @@
--- `printing::measure` meets its contract. The loop's invariant is `Measuring`: so many elements are checked and measured, up to a place of the
--- line behind so many of its fields, and what is still to come makes the whole. A turn uses an element, or goes back to the line's start when
--- the fields have run out; so the measure is twice the elements left, and one more where the fields have run out. Assumes nothing.
-use Prim.Native.Nat.{◌+◌, ◌-◌}
-use Rattle.records.specs.Printing.{element_list}
+-- `printing::measure` meets its contract. Both loops keep `Measuring`: so many bytes and spilled elements are counted, and what the elements left
+-- print makes the whole. The inner loop also keeps `Pass`: as many elements were used in this pass as fields passed. The measure is the elements left. Assumes nothing.
+use lib.ListN.{length}
 use Rattle.records.proofs.MeasureLaws.{Measuring}
+use Rattle.records.proofs.PlaceLaws.{Pass}
 use Rattle.records.proofs.printing.measure.Given as goal
 
-abbrev pub invariant-loop-used : goal.invariant-loop-used
-invariant-loop-used l =
-    Measuring l.line (element_list l.elements l.count) l.room l.found l.bytes l.spilled l.at l.next l.used
+abbrev pub invariant-lines : goal.invariant-lines
+invariant-lines l = Measuring l.line l.elements l.left 0 l.bytes l.spilled
 
-abbrev pub decreases-loop-used : goal.decreases-loop-used
-decreases-loop-used l =
-    (l.count - l.used) + (l.count - l.used) + (l.next - (l.found.count - 1))
+abbrev pub decreases-lines : goal.decreases-lines
+decreases-lines l = length l.left
+
+abbrev pub invariant-loop-field : goal.invariant-loop-field
+invariant-loop-field l =
+    record {
+      measuring : Measuring l.line l.elements l.left l.at l.bytes l.spilled;
+      pass : Pass l.line l.elements l.initial.left l.left l.field-index l.at;
+    }

@@ -1,387 +1,139 @@
--- `printing::write_lines` meets its contract. Both loops keep `Place` and `Writing`: the buffer holds the first bytes of what is printed, and the
--- rest is still to come; the inner loop also keeps `AtField`: the place stands behind so many fields of the line, and as many elements
--- were used in this pass. The measures are the elements left, and the fields left. Assumes nothing.
-use Prim.Native.Nat.{ℕ, ◌+◌, ◌-◌, ◌<◌}
+-- `printing::write_lines` meets its contract: what is written so far is `Writing`, and what stands in the line is `Place`. Assumes nothing.
+use Prim.Native.Nat.{◌+◌, ◌<◌, ◌-◌}
 use native.Mathlib.Omega.{arith}
-use mathlib.Core.Path.{◌≡◌, refl, ap, sym, ◌∙◌}
-use lib.ListN.{length, drop, get_or, take}
+use mathlib.Core.Path.{◌≡◌, ap, sym, ◌∙◌, refl}
+use borrow.Author.Tests.{eqb-true, eqb-false}
+use lib.ListN.{length, get_or}
 use Rattle.decimal.specs.Image.{scanned_image}
-use Rattle.records.specs.Printing.{element_list, check_element}
-use Rattle.records.specs.Finding.{no_field}
-use Rattle.records.proofs.CheckLaws.{element_at}
-use Rattle.records.proofs.FindLaws.{at_first, no_next, listed_next}
-use Rattle.records.proofs.PlaceLaws.{zero_element, place_starts, place_literals, place_line, place_small, literals_at, elements_count, elements_at, turn_some, turn_ready, turn_place}
-use Rattle.records.proofs.PrintBufferLaws.{part_size, writing_starts, literals_room, writing_literals, element_room, writing_element, line_room, writing_line, writing_ends}
-use Rattle.records.proofs.MeasureLaws.{listed_some}
+use Rattle.records.proofs.FindLaws.{no_field}
+use Rattle.records.proofs.PlaceLaws.{place_starts, place_literals, place_next, place_line, literals_at, checked_left, next_part, next_ready, pass_starts, pass_field, pass_next, pass_over, pass_fewer}
+use Rattle.records.proofs.WritingLaws.{lent_length}
+use Rattle.records.proofs.PrintBufferLaws.{writing_starts, literals_room, writing_literals, element_room, writing_element, line_room, writing_line, writing_ends}
 use Rattle.records.proofs.printing.write_lines.Goals as goal
 
 pub lines-init : goal.lines-init
-lines-init c = (place_starts _ _, writing_starts _ _ _ _ c.requires.0.fits)
+lines-init c =
+    record {
+      place = place_starts _ _;
+      checked = record { index = 0; fine = c.requires.0.elements };
+      writing = writing_starts _ _ _ _ c.requires.0.fits;
+    }
 
-pub loop-next-init : goal.loop-next-init
-loop-next-init c = (c.lines.invariant.0, at_first _, omega arith, omega arith, λ entry w. w)
+pub loop-field-init : goal.loop-field-init
+loop-field-init c =
+    record {
+      place = c.lines.invariant.place;
+      checked = c.lines.invariant.checked;
+      pass = pass_starts _ c.lines.invariant.place.within;
+      writing = λ entry w. w;
+    }
 
-pub offset_bounds-found-next : goal.offset_bounds-found-next
-offset_bounds-found-next c =
-    let l = c in
-    let a = l in
-    let p = l.loop-next.invariant.0 in
-    let n = elements_count a.args.elements a.args.count in
-    omega (arith, l.loop-next.invariant.3, p.within, a.requires.0.ready.few)
-
-pub bounds-found-next : goal.bounds-found-next
-bounds-found-next c =
-    let l = c in
-    let a = l in
-    let p = l.loop-next.invariant.0 in
-    let n = elements_count a.args.elements a.args.count in
-    omega (arith, l.loop-next.invariant.3, p.within, a.requires.0.ready.few)
-
-pub slice_bounds-write_bytes-count : goal.slice_bounds-write_bytes-count
-slice_bounds-write_bytes-count c =
-    let y = c in
-    let l = y in
-    let a = l in
-    let p = l.loop-next.invariant.0 in
-    let n = elements_count a.args.elements a.args.count in
-    let few : l.loop-next.next < 65 = omega (arith, l.loop-next.invariant.3, p.within, a.requires.0.ready.few) in
-    let x = listed_next no_field a.requires.1 l.loop-next.invariant.1 y.loop-next-test.true few in
+pub overflow_sub-front : goal.overflow_sub-front
+overflow_sub-front c =
+    let x = pass_field c.requires.1 c.loop-field.invariant.pass c.loop-field-test.true in
     omega (arith, x.first)
 
-pub slice_bounds-write_bytes-start : goal.slice_bounds-write_bytes-start
-slice_bounds-write_bytes-start c =
-    let y = c in
-    let l = y in
-    let a = l in
-    let p = l.loop-next.invariant.0 in
-    let n = elements_count a.args.elements a.args.count in
-    let few : l.loop-next.next < 65 = omega (arith, l.loop-next.invariant.3, p.within, a.requires.0.ready.few) in
-    let x = listed_next no_field a.requires.1 l.loop-next.invariant.1 y.loop-next-test.true few in
+pub slice_bounds-copy_from_slice-end : goal.slice_bounds-copy_from_slice-end
+slice_bounds-copy_from_slice-end c =
+    let i = c.loop-field.invariant in
+    let x = pass_field c.requires.1 i.pass c.loop-field-test.true in
+    omega (arith, literals_room (i.writing _ c.lines.invariant.writing) i.place x.first)
+
+pub slice_bounds-copy_from_slice-count-in-loop-field : goal.slice_bounds-copy_from_slice-count-in-loop-field
+slice_bounds-copy_from_slice-count-in-loop-field c =
+    let x = pass_field c.requires.1 c.loop-field.invariant.pass c.loop-field-test.true in
     omega (arith, x.first)
 
-pub slice_bounds-write_bytes-end : goal.slice_bounds-write_bytes-end
-slice_bounds-write_bytes-end c =
-    let y = c in
-    let l = y in
-    let a = l in
-    let p = l.loop-next.invariant.0 in
-    let n = elements_count a.args.elements a.args.count in
-    let few : l.loop-next.next < 65 = omega (arith, l.loop-next.invariant.3, p.within, a.requires.0.ready.few) in
-    let x = listed_next no_field a.requires.1 l.loop-next.invariant.1 y.loop-next-test.true few in
+pub slice_bounds-copy_from_slice-start-in-loop-field : goal.slice_bounds-copy_from_slice-start-in-loop-field
+slice_bounds-copy_from_slice-start-in-loop-field c =
+    let x = pass_field c.requires.1 c.loop-field.invariant.pass c.loop-field-test.true in
+    omega (arith, x.first)
+
+pub slice_bounds-copy_from_slice-end-in-loop-field : goal.slice_bounds-copy_from_slice-end-in-loop-field
+slice_bounds-copy_from_slice-end-in-loop-field c =
+    let x = pass_field c.requires.1 c.loop-field.invariant.pass c.loop-field-test.true in
     omega (arith, x.there)
-
-pub write_bytes-requires : goal.write_bytes-requires
-write_bytes-requires c =
-    let y = c in
-    let l = y in
-    let a = l in
-    let p = l.loop-next.invariant.0 in
-    let n = elements_count a.args.elements a.args.count in
-    let few : l.loop-next.next < 65 = omega (arith, l.loop-next.invariant.3, p.within, a.requires.0.ready.few) in
-    let x = listed_next no_field a.requires.1 l.loop-next.invariant.1 y.loop-next-test.true few in
-    let w = l.loop-next.invariant.4 a.args.buffer.now l.lines.invariant.1 in
-    let start = (get_or a.args.found.fields l.loop-next.next no_field).start in
-    omega (arith, literals_room w p x.first, part_size (start - l.loop-next.at) (drop l.loop-next.at a.args.line.now))
-
-pub overflow_sub-out : goal.overflow_sub-out
-overflow_sub-out c =
-    let y = c in
-    let l = y in
-    let a = l in
-    let p = l.loop-next.invariant.0 in
-    let n = elements_count a.args.elements a.args.count in
-    let few : l.loop-next.next < 65 = omega (arith, l.loop-next.invariant.3, p.within, a.requires.0.ready.few) in
-    let x = listed_next no_field a.requires.1 l.loop-next.invariant.1 y.loop-next-test.true few in
-    omega (arith, x.first)
-
-pub overflow_add-out : goal.overflow_add-out
-overflow_add-out c =
-    let y = c in
-    let l = y in
-    let a = l in
-    let p = l.loop-next.invariant.0 in
-    let n = elements_count a.args.elements a.args.count in
-    let few : l.loop-next.next < 65 = omega (arith, l.loop-next.invariant.3, p.within, a.requires.0.ready.few) in
-    let x = listed_next no_field a.requires.1 l.loop-next.invariant.1 y.loop-next-test.true few in
-    omega (arith, place_small (place_literals p x.first) a.requires.0.ready)
-
-pub overflow_add-end : goal.overflow_add-end
-overflow_add-end c =
-    let y = c in
-    let l = y in
-    let a = l in
-    let p = l.loop-next.invariant.0 in
-    let n = elements_count a.args.elements a.args.count in
-    let few : l.loop-next.next < 65 = omega (arith, l.loop-next.invariant.3, p.within, a.requires.0.ready.few) in
-    let x = listed_next no_field a.requires.1 l.loop-next.invariant.1 y.loop-next-test.true few in
-    omega (arith, x.on.inside, a.requires.0.ready.short)
-
-pub offset_bounds-elements-used : goal.offset_bounds-elements-used
-offset_bounds-elements-used c =
-    let y = c in
-    let l = y in
-    let a = l in
-    let p = l.loop-next.invariant.0 in
-    let n = elements_count a.args.elements a.args.count in
-    let few : l.loop-next.next < 65 = omega (arith, l.loop-next.invariant.3, p.within, a.requires.0.ready.few) in
-    let x = listed_next no_field a.requires.1 l.loop-next.invariant.1 y.loop-next-test.true few in
-    omega (arith, p.within, a.requires.0.ready.few, c.if-used-count.false)
-
-pub bounds-elements-used : goal.bounds-elements-used
-bounds-elements-used c =
-    let y = c in
-    let l = y in
-    let a = l in
-    let p = l.loop-next.invariant.0 in
-    let n = elements_count a.args.elements a.args.count in
-    let few : l.loop-next.next < 65 = omega (arith, l.loop-next.invariant.3, p.within, a.requires.0.ready.few) in
-    let x = listed_next no_field a.requires.1 l.loop-next.invariant.1 y.loop-next-test.true few in
-    omega (arith, p.within, a.requires.0.ready.few, c.if-used-count.false)
 
 pub slice_bounds-write_element-end : goal.slice_bounds-write_element-end
 slice_bounds-write_element-end c =
-    let y = c in
-    let l = y in
-    let a = l in
-    let p = l.loop-next.invariant.0 in
-    let n = elements_count a.args.elements a.args.count in
-    let few : l.loop-next.next < 65 = omega (arith, l.loop-next.invariant.3, p.within, a.requires.0.ready.few) in
-    let x = listed_next no_field a.requires.1 l.loop-next.invariant.1 y.loop-next-test.true few in
+    let x = pass_field c.requires.1 c.loop-field.invariant.pass c.loop-field-test.true in
     omega (arith, x.on.inside)
+
+pub slice_bounds-write_element-end-in-loop-field : goal.slice_bounds-write_element-end-in-loop-field
+slice_bounds-write_element-end-in-loop-field c =
+    let i = c.loop-field.invariant in
+    let x = pass_field c.requires.1 i.pass c.loop-field-test.true in
+    omega (arith, element_room (i.writing _ c.lines.invariant.writing) i.place x c.in-len1-up.len_at_least c.copy_from_slice.ensures.after)
 
 pub write_element-requires : goal.write_element-requires
 write_element-requires c =
-    let e = c in
-    let y = e in
-    let l = y in
-    let a = l in
-    let p = l.loop-next.invariant.0 in
-    let n = elements_count a.args.elements a.args.count in
-    let few : l.loop-next.next < 65 = omega (arith, l.loop-next.invariant.3, p.within, a.requires.0.ready.few) in
-    let x = listed_next no_field a.requires.1 l.loop-next.invariant.1 y.loop-next-test.true few in
-    let w = l.loop-next.invariant.4 a.args.buffer.now l.lines.invariant.1 in
-    let more : (get_or a.args.found.fields l.loop-next.next no_field).start ≡ length a.args.line.now → ⊥ = λ z. omega (arith, x.there) in
-    let used : l.loop-next.used < length (element_list a.args.elements a.args.count) = omega (arith, p.within, e.if-used-count.false) in
-    let g = a.well_formed in
-    let same =
-    elements_at a.args.elements a.args.count l.loop-next.used zero_element zero_element (omega arith) (omega (arith, a.requires.0.ready.few)) in
-    let start = (get_or a.args.found.fields l.loop-next.next no_field).start in
-    let size = (get_or a.args.found.fields l.loop-next.next no_field).length in
-    let whole : size ≡ start + size - start = omega arith in
-    let w2 = writing_literals w p x.first e.write_bytes.ensures in
-    let fits = element_room w2 (place_literals p x.first) used x.found (turn_some p x.first more x.found) in (
-      turn_ready p x.first more x.found a.requires.0.fields l.loop-next.invariant.1.reached,
-      x.image_read ∙ ap (λ (k : ℕ). scanned_image (take k (drop start a.args.line.now))) whole,
-      ap (check_element (length a.args.texts.now) 0) (sym same)
-          ∙ element_at (length a.args.texts.now) (element_list a.args.elements a.args.count) a.requires.0.elements l.loop-next.used zero_element used,
-      omega (arith, fits, part_size (start + size - start) (drop start a.args.line.now)),
+    let i = c.loop-field.invariant in
+    let x = pass_field c.requires.1 i.pass c.loop-field-test.true in
+    let more = c.in-len1-up.len_at_least in
+    let f = get_or c.args.fields.now c.loop-field.field-index no_field in
+    let fits = element_room (i.writing _ c.lines.invariant.writing) i.place x more c.copy_from_slice.ensures.after in
+    let out = c.loop-field.out + (f.start - c.loop-field.at) in
+    let same : out + f.length - out ≡ f.start + f.length - f.start = omega arith in (
+      record { ready = next_ready x c.requires.0.fields; read = x.image_read ∙ ap scanned_image (sym (next_part x)) },
+      (checked_left _ more i.checked).0,
+      lent_length _ out (out + f.length - out) (omega (arith, fits)) ∙ same ∙ sym (lent_length c.args.line.now f.start (f.start + f.length - f.start) (omega (arith, x.on.inside))),
     )
 
-pub overflow_add-out-in-loop-next : goal.overflow_add-out-in-loop-next
-overflow_add-out-in-loop-next c =
-    let e = c in
-    let y = e in
-    let l = y in
-    let a = l in
-    let p = l.loop-next.invariant.0 in
-    let n = elements_count a.args.elements a.args.count in
-    let few : l.loop-next.next < 65 = omega (arith, l.loop-next.invariant.3, p.within, a.requires.0.ready.few) in
-    let x = listed_next no_field a.requires.1 l.loop-next.invariant.1 y.loop-next-test.true few in
-    let used : l.loop-next.used < length (element_list a.args.elements a.args.count) = omega (arith, p.within, e.if-used-count.false) in
-    let more : (get_or a.args.found.fields l.loop-next.next no_field).start ≡ length a.args.line.now → ⊥ = λ z. omega (arith, x.there) in
-    omega (arith, place_small (turn_place p x.first more x.found used) a.requires.0.ready)
+pub loop-field-preserved : goal.loop-field-preserved
+loop-field-preserved c =
+    let i = c.loop-field.invariant in
+    let x = pass_field c.requires.1 i.pass c.loop-field-test.true in
+    let more = c.in-len1-up.len_at_least in
+    record {
+      place = place_next x i.place more;
+      checked = (checked_left _ more i.checked).1;
+      pass = pass_next c.requires.1 i.pass c.loop-field-test.true more;
+      writing = λ entry w. writing_element (i.writing entry w) i.place x more c.copy_from_slice.ensures.after c.write_element.ensures;
+    }
 
-pub overflow_add-used : goal.overflow_add-used
-overflow_add-used c =
-    let e = c in
-    let y = e in
-    let l = y in
-    let a = l in
-    let p = l.loop-next.invariant.0 in
-    let n = elements_count a.args.elements a.args.count in
-    let few : l.loop-next.next < 65 = omega (arith, l.loop-next.invariant.3, p.within, a.requires.0.ready.few) in
-    let x = listed_next no_field a.requires.1 l.loop-next.invariant.1 y.loop-next-test.true few in
-    let used : l.loop-next.used < length (element_list a.args.elements a.args.count) = omega (arith, p.within, e.if-used-count.false) in
-    omega (arith, a.requires.0.ready.few)
-
-pub overflow_add-next : goal.overflow_add-next
-overflow_add-next c =
-    let e = c in
-    let y = e in
-    let l = y in
-    let a = l in
-    let p = l.loop-next.invariant.0 in
-    let n = elements_count a.args.elements a.args.count in
-    let few : l.loop-next.next < 65 = omega (arith, l.loop-next.invariant.3, p.within, a.requires.0.ready.few) in
-    let x = listed_next no_field a.requires.1 l.loop-next.invariant.1 y.loop-next-test.true few in
-    let used : l.loop-next.used < length (element_list a.args.elements a.args.count) = omega (arith, p.within, e.if-used-count.false) in
-    omega arith
-
-pub loop-next-smaller : goal.loop-next-smaller
-loop-next-smaller c =
-    let e = c in
-    let y = e in
-    let l = y in
-    let a = l in
-    let p = l.loop-next.invariant.0 in
-    let n = elements_count a.args.elements a.args.count in
-    let few : l.loop-next.next < 65 = omega (arith, l.loop-next.invariant.3, p.within, a.requires.0.ready.few) in
-    let x = listed_next no_field a.requires.1 l.loop-next.invariant.1 y.loop-next-test.true few in
-    let used : l.loop-next.used < length (element_list a.args.elements a.args.count) = omega (arith, p.within, e.if-used-count.false) in
-    omega arith
-
-pub loop-next-preserved : goal.loop-next-preserved
-loop-next-preserved c =
-    let e = c in
-    let y = e in
-    let l = y in
-    let a = l in
-    let p = l.loop-next.invariant.0 in
-    let n = elements_count a.args.elements a.args.count in
-    let few : l.loop-next.next < 65 = omega (arith, l.loop-next.invariant.3, p.within, a.requires.0.ready.few) in
-    let x = listed_next no_field a.requires.1 l.loop-next.invariant.1 y.loop-next-test.true few in
-    let used : l.loop-next.used < length (element_list a.args.elements a.args.count) = omega (arith, p.within, e.if-used-count.false) in
-    let more : (get_or a.args.found.fields l.loop-next.next no_field).start ≡ length a.args.line.now → ⊥ = λ z. omega (arith, x.there) in
-    let g = a.well_formed in
-    let same =
-    elements_at a.args.elements a.args.count l.loop-next.used zero_element zero_element (omega arith) (omega (arith, a.requires.0.ready.few)) in (
-      turn_place p x.first more x.found used,
-      x.on,
-      omega arith,
-      omega (arith, l.loop-next.invariant.3),
-      λ entry w.
-          writing_element
-          (writing_literals (l.loop-next.invariant.4 entry w) p x.first e.write_bytes.ensures)
-          (place_literals p x.first) zero_element (get_or a.args.elements l.loop-next.used zero_element) used x.found
-          (turn_some p x.first more x.found) same
-          c.write_element.ensures,
-    )
-
-pub slice_bounds-write_bytes-count-in-lines : goal.slice_bounds-write_bytes-count-in-lines
-slice_bounds-write_bytes-count-in-lines c =
-    let z = c in
-    let l = z in
-    let a = l in
-    let p = l.loop-next.invariant.0 in
-    let n = elements_count a.args.elements a.args.count in
-    let first = no_next l.loop-next.invariant.1 (omega (arith, a.requires.1.counted, z.loop-next-test.false)) in
-    omega (arith, p.inside)
-
-pub slice_bounds-write_bytes-start-in-lines : goal.slice_bounds-write_bytes-start-in-lines
-slice_bounds-write_bytes-start-in-lines c =
-    let z = c in
-    let l = z in
-    let a = l in
-    let p = l.loop-next.invariant.0 in
-    let n = elements_count a.args.elements a.args.count in
-    let first = no_next l.loop-next.invariant.1 (omega (arith, a.requires.1.counted, z.loop-next-test.false)) in
-    omega (arith, p.inside)
-
-pub write_bytes-requires-in-lines : goal.write_bytes-requires-in-lines
-write_bytes-requires-in-lines c =
-    let z = c in
-    let l = z in
-    let a = l in
-    let p = l.loop-next.invariant.0 in
-    let n = elements_count a.args.elements a.args.count in
-    let first = no_next l.loop-next.invariant.1 (omega (arith, a.requires.1.counted, z.loop-next-test.false)) in
-    let w = l.loop-next.invariant.4 a.args.buffer.now l.lines.invariant.1 in
-    let size = length a.args.line.now in
-    omega (arith, literals_room w p first, part_size (size - l.loop-next.at) (drop l.loop-next.at a.args.line.now))
-
-pub overflow_sub-out-in-lines : goal.overflow_sub-out-in-lines
-overflow_sub-out-in-lines c =
-    let z = c in
-    let l = z in
-    let a = l in
-    let p = l.loop-next.invariant.0 in
-    let n = elements_count a.args.elements a.args.count in
-    let first = no_next l.loop-next.invariant.1 (omega (arith, a.requires.1.counted, z.loop-next-test.false)) in
-    omega (arith, p.inside)
-
-pub overflow_add-out-in-lines : goal.overflow_add-out-in-lines
-overflow_add-out-in-lines c =
-    let z = c in
-    let l = z in
-    let a = l in
-    let p = l.loop-next.invariant.0 in
-    let n = elements_count a.args.elements a.args.count in
-    let first = no_next l.loop-next.invariant.1 (omega (arith, a.requires.1.counted, z.loop-next-test.false)) in
-    omega (arith, place_small (place_literals p first) a.requires.0.ready)
+pub slice_bounds-copy_from_slice-end-in-lines : goal.slice_bounds-copy_from_slice-end-in-lines
+slice_bounds-copy_from_slice-end-in-lines c =
+    let i = c.loop-field.invariant in
+    let over = pass_over c.requires.1 i.pass c.requires.0.ready c.loop-field-test.false in
+    omega (arith, literals_room (i.writing _ c.lines.invariant.writing) i.place over)
 
 pub bounds-buffer-out : goal.bounds-buffer-out
 bounds-buffer-out c =
-    let z = c in
-    let l = z in
-    let a = l in
-    let p = l.loop-next.invariant.0 in
-    let n = elements_count a.args.elements a.args.count in
-    let first = no_next l.loop-next.invariant.1 (omega (arith, a.requires.1.counted, z.loop-next-test.false)) in
-    let w = l.loop-next.invariant.4 a.args.buffer.now l.lines.invariant.1 in
-    let w2 = writing_literals w p first c.write_bytes-in-lines.ensures in
-    let p2 = place_literals p first in
-    let used : l.loop-next.used < length (element_list a.args.elements a.args.count) = omega (arith, p.within, c.if-used-count-2.false) in
-    line_room w2 p2 a.requires.0.ready used refl
-
-pub overflow_add-out-in-lines-2 : goal.overflow_add-out-in-lines-2
-overflow_add-out-in-lines-2 c =
-    let z = c in
-    let l = z in
-    let a = l in
-    let p = l.loop-next.invariant.0 in
-    let n = elements_count a.args.elements a.args.count in
-    let first = no_next l.loop-next.invariant.1 (omega (arith, a.requires.1.counted, z.loop-next-test.false)) in
-    omega (arith, place_small (place_literals p first) a.requires.0.ready)
+    let i = c.loop-field.invariant in
+    let over = pass_over c.requires.1 i.pass c.requires.0.ready c.loop-field-test.false in
+    let more = eqb-false _ _ (sym c.is_empty.ensures ∙ c.if-is_empty.false) in
+    line_room (writing_literals (i.writing _ c.lines.invariant.writing) i.place over c.copy_from_slice-in-lines.ensures.after) (place_literals i.place over)
+    c.requires.0.ready (omega arith) refl
 
 pub lines-smaller : goal.lines-smaller
 lines-smaller c =
-    let z = c in
-    let l = z in
-    let a = l in
-    let p = l.loop-next.invariant.0 in
-    let n = elements_count a.args.elements a.args.count in
-    let first = no_next l.loop-next.invariant.1 (omega (arith, a.requires.1.counted, z.loop-next-test.false)) in
-    let used : l.loop-next.used < length (element_list a.args.elements a.args.count) = omega (arith, p.within, c.if-used-count-2.false) in
-    omega (arith, l.loop-next.invariant.3, z.loop-next-test.false, listed_some a.requires.0.ready a.requires.1 (omega arith))
+    pass_fewer c.requires.1 c.loop-field.invariant.pass c.requires.0.ready c.loop-field-test.false
+    (eqb-false _ _ (sym c.is_empty.ensures ∙ c.if-is_empty.false))
 
 pub lines-preserved : goal.lines-preserved
 lines-preserved c =
-    let z = c in
-    let l = z in
-    let a = l in
-    let p = l.loop-next.invariant.0 in
-    let n = elements_count a.args.elements a.args.count in
-    let first = no_next l.loop-next.invariant.1 (omega (arith, a.requires.1.counted, z.loop-next-test.false)) in
-    let w = l.loop-next.invariant.4 a.args.buffer.now l.lines.invariant.1 in
-    let w2 = writing_literals w p first c.write_bytes-in-lines.ensures in
-    let p2 = place_literals p first in
-    let used : l.loop-next.used < length (element_list a.args.elements a.args.count) = omega (arith, p.within, c.if-used-count-2.false) in
-    (place_line p2 a.requires.0.ready used refl, writing_line w2 p2 a.requires.0.ready used refl refl)
+    let i = c.loop-field.invariant in
+    let over = pass_over c.requires.1 i.pass c.requires.0.ready c.loop-field-test.false in
+    let no = eqb-false _ _ (sym c.is_empty.ensures ∙ c.if-is_empty.false) in
+    let more : 0 < length c.loop-field.left.now = omega arith in
+    record {
+      place = place_line (place_literals i.place over) c.requires.0.ready more refl;
+      checked = i.checked;
+      writing =
+          writing_line (writing_literals (i.writing _ c.lines.invariant.writing) i.place over c.copy_from_slice-in-lines.ensures.after)
+          (place_literals i.place over) c.requires.0.ready more refl refl;
+    }
 
-pub returns-then-used-count : goal.returns-then-used-count
-returns-then-used-count c =
-    let y = c in
-    let l = y in
-    let a = l in
-    let p = l.loop-next.invariant.0 in
-    let n = elements_count a.args.elements a.args.count in
-    let few : l.loop-next.next < 65 = omega (arith, l.loop-next.invariant.3, p.within, a.requires.0.ready.few) in
-    let x = listed_next no_field a.requires.1 l.loop-next.invariant.1 y.loop-next-test.true few in
-    let w = l.loop-next.invariant.4 a.args.buffer.now l.lines.invariant.1 in
-    let w2 = writing_literals w p x.first c.write_bytes.ensures in
-    let all : l.loop-next.used ≡ length (element_list a.args.elements a.args.count) = omega (arith, c.if-used-count.true) in
-    writing_ends w2 (place_literals p x.first) all (literals_at a.args.line.now l.loop-next.at x.first)
+pub returns-in_default : goal.returns-in_default
+returns-in_default c =
+    let i = c.loop-field.invariant in
+    let x = pass_field c.requires.1 i.pass c.loop-field-test.true in
+    writing_ends (writing_literals (i.writing _ c.lines.invariant.writing) i.place x.first c.copy_from_slice.ensures.after) (place_literals i.place x.first)
+    (omega (arith, c.in_default.len_below)) (literals_at c.args.line.now c.loop-field.at x.first)
 
-pub returns-then-used-count-2 : goal.returns-then-used-count-2
-returns-then-used-count-2 c =
-    let z = c in
-    let l = z in
-    let a = l in
-    let p = l.loop-next.invariant.0 in
-    let n = elements_count a.args.elements a.args.count in
-    let first = no_next l.loop-next.invariant.1 (omega (arith, a.requires.1.counted, z.loop-next-test.false)) in
-    let w = l.loop-next.invariant.4 a.args.buffer.now l.lines.invariant.1 in
-    let w2 = writing_literals w p first c.write_bytes-in-lines.ensures in
-    let p2 = place_literals p first in
-    let all : l.loop-next.used ≡ length (element_list a.args.elements a.args.count) = omega (arith, c.if-used-count-2.true) in
-    writing_ends w2 p2 all (literals_at a.args.line.now l.loop-next.at first)
+pub returns-then-is_empty : goal.returns-then-is_empty
+returns-then-is_empty c =
+    let i = c.loop-field.invariant in
+    let over = pass_over c.requires.1 i.pass c.requires.0.ready c.loop-field-test.false in
+    writing_ends (writing_literals (i.writing _ c.lines.invariant.writing) i.place over c.copy_from_slice-in-lines.ensures.after) (place_literals i.place over)
+    (eqb-true _ _ (sym c.is_empty.ensures ∙ c.if-is_empty.true)) (literals_at c.args.line.now c.loop-field.at over)

@@ -1,32 +1,33 @@
--- `printing::write_lines` meets its contract. Both loops keep `Place` and `Writing`: the buffer holds the first bytes of what is printed, and the
--- rest is still to come; the inner loop also keeps `AtField`: the place stands behind so many fields of the line, and as many elements
--- were used in this pass. The measures are the elements left, and the fields left. Assumes nothing.
-use Prim.Native.Nat.{ℕ, ◌+◌, ◌-◌, ◌≤◌}
-use mathlib.Core.Path.{◌≡◌}
+-- `printing::write_lines` meets its contract. Both loops keep `Place` and `Writing`: the buffer holds the first bytes of what is printed, and what
+-- the elements left print is still to come. The inner loop also keeps `Pass`: as many elements were used in this
+-- pass as fields passed. The measure is the elements left. Assumes nothing.
+use Prim.Native.Nat.{ℕ}
 use mathlib.Core.List.{List}
-use Rattle.records.specs.Printing.{element_list}
-use Rattle.records.proofs.FindLaws.{AtField}
-use Rattle.records.proofs.PlaceLaws.{Place}
+use lib.ListN.{length}
+use Rattle.records.proofs.CheckLaws.{Checked}
+use Rattle.records.proofs.PlaceLaws.{Pass, Place}
 use Rattle.records.proofs.PrintBufferLaws.{Writing}
 use Rattle.records.proofs.printing.write_lines.Given as goal
 
-abbrev pub invariant-loop-next : goal.invariant-loop-next
-invariant-loop-next l =
-    Place l.line (element_list l.elements l.count) l.used l.at l.out
-    × AtField l.line l.next l.at
-    × (l.next ≤ l.found.count)
-    × (l.used ≡ l.initial.used + l.next)
-    × ((entry : List ℕ)
-    → Writing entry l.texts l.line (element_list l.elements l.count) l.initial.out l.initial.buffer
-    → Writing entry l.texts l.line (element_list l.elements l.count) l.out l.buffer)
-
-abbrev pub decreases-loop-next : goal.decreases-loop-next
-decreases-loop-next l = l.found.count - l.next
-
 abbrev pub invariant-lines : goal.invariant-lines
 invariant-lines l =
-    Place l.line (element_list l.elements l.count) l.used 0 l.out
-    × Writing l.initial.buffer l.texts l.line (element_list l.elements l.count) l.out l.buffer
+    record {
+      place : Place l.line l.elements l.left 0 l.out;
+      checked : Checked (length l.texts) l.left;
+      writing : Writing l.initial.buffer l.texts l.line l.elements l.out l.buffer;
+    }
 
 abbrev pub decreases-lines : goal.decreases-lines
-decreases-lines l = l.count - l.used
+decreases-lines l = length l.left
+
+abbrev pub invariant-loop-field : goal.invariant-loop-field
+invariant-loop-field l =
+    record {
+      place : Place l.line l.elements l.left l.at l.out;
+      checked : Checked (length l.texts) l.left;
+      pass : Pass l.line l.elements l.initial.left l.left l.field-index l.at;
+      writing :
+          (entry : List ℕ)
+          → Writing entry l.texts l.line l.elements l.initial.out l.initial.buffer
+          → Writing entry l.texts l.line l.elements l.out l.buffer;
+    }

@@ -1,9 +1,20 @@
 -- `scanning::scan` meets its contract: the length of the field that is scanned. Assumes nothing.
-use mathlib.Core.Path.{ap}
-use Rattle.records.specs.declared.scanning.Scanned.{Scanned}
-use Rattle.records.specs.Scanning.{scanned_field}
+use Prim.Native.Nat.{◌≤◌}
+use native.Mathlib.Omega.{arith}
+use mathlib.Core.Path.{ap, sym, ◌∙◌}
+use lib.ListN.{length, drop_of_length-le}
+use Rattle.std.proofs.lemmas.List.{take_rest}
+use Rattle.records.specs.Scanning.{field_length}
+use Rattle.records.proofs.CheckLaws.{no_bytes_field}
+use Rattle.records.proofs.ScanLaws.{scanned_length}
 use Rattle.records.proofs.scanning.scan.Goals as goal
 
-pub returns : goal.returns
-unfolding scanned_field
-returns c = ap (λ (s : Scanned). s.length) c.scan_field-scanned.ensures
+pub returns-in-Some : goal.returns-in-Some
+returns-in-Some c =
+    scanned_length _ c.scan_field.ensures ∙ ap field_length (c.in-Some.ensures.lookup.0.2 ∙ take_rest c.args.line.now c.args.at)
+
+pub returns-in-None : goal.returns-in-None
+returns-in-None c =
+    let h = c.in-None.ensures.lookup in
+    let past : length c.args.line.now ≤ c.args.at = omega arith in
+    sym (ap field_length (drop_of_length-le c.args.line.now past) ∙ no_bytes_field)

@@ -1,25 +1,7 @@
--- `is_at_most` meets its contract: what the order of two numbers in normal form tells. Assumes nothing.
-use mathlib.Core.Path.{ap, sym, ◌∙◌}
-use Rattle.decimal.specs.Comparison.{is_at_most, order_meaning}
-use Rattle.rolls.proofs.FallLaws.{ordered, never_refused}
+-- `is_at_most` meets its contract: what the order of two numbers tells, if they have one. Assumes nothing.
+use Rattle.std.proofs.Common.{rules}
+use Rattle.rolls.proofs.FallLaws.{compared_told}
 use Rattle.rolls.proofs.falling.is_at_most.Goals as goal
 
-pub returns-in-Refused : goal.returns-in-Refused
-returns-in-Refused c p q =
-    let a = c.args in
-    never_refused a.first a.second p q (ap order_meaning (sym c.in-Refused.is) ∙ c.compare.ensures)
-
-pub returns-in-Less : goal.returns-in-Less
-returns-in-Less c p q =
-    let a = c.args in
-    ap is_at_most (sym c.in-Less.is) ∙ ordered a.first a.second p q (ap order_meaning (sym c.in-Order.is) ∙ c.compare.ensures)
-
-pub returns-in-Equal : goal.returns-in-Equal
-returns-in-Equal c p q =
-    let a = c.args in
-    ap is_at_most (sym c.in-Equal.is) ∙ ordered a.first a.second p q (ap order_meaning (sym c.in-Order.is) ∙ c.compare.ensures)
-
-pub returns-in-Greater : goal.returns-in-Greater
-returns-in-Greater c p q =
-    let a = c.args in
-    ap is_at_most (sym c.in-Greater.is) ∙ ordered a.first a.second p q (ap order_meaning (sym c.in-Order.is) ∙ c.compare.ensures)
+pub returns : goal.returns
+returns c = compared_told _ _ c.compare.result c.compare.ensures (search rules)

@@ -1,35 +1,17 @@
--- `check_normal` meets its contract. The loop's invariant: the positions from the index on say what all say. The measure is the positions
--- left. Assumes nothing.
-use mathlib.Core.Path.{ap, sym, ◌∙◌}
-use native.Mathlib.Omega.{arith}
-use Rattle.decimal.specs.Number.{normal}
-use Rattle.rolls.proofs.PageLaws.{nothing, positions_count, position_at, checking_starts, checking_turns, checking_stops, checking_ends}
+-- `check_normal` meets its contract: refused as the first position that is. Assumes nothing.
+use Rattle.std.proofs.Common.{sym, ◌∙◌}
+use Rattle.decimal.proofs.AnswerLaws.{passed_on}
+use Rattle.rolls.proofs.PageLaws.{numbers_turn, numbers_refused, numbers_end}
 use Rattle.rolls.proofs.searching.check_normal.Goals as goal
 
-pub loop-index-init : goal.loop-index-init
-loop-index-init c = (omega arith, checking_starts _)
-
-pub returns-then-not-is_normal : goal.returns-then-not-is_normal
-returns-then-not-is_normal c =
-    let p = c.args.positions in
-    let l = c.loop-index in
-    let e = position_at p l.index nothing c.loop-index-test.true (omega (arith, c.loop-index-test.true, c.requires)) in
-    c.refused.ensures
-    ∙ sym (checking_stops _ l.invariant.1 (omega (arith, positions_count p, c.loop-index-test.true))
-    (ap normal (sym e) ∙ sym c.is_normal.ensures ∙ c.if-not-is_normal.true))
+pub returns-in_err-checked : goal.returns-in_err-checked
+returns-in_err-checked c =
+    passed_on _ _ c.from_residual.ensures.1
+    ∙ sym (c.loop-index.invariant ∙ numbers_refused c.args.positions.now c.loop-index.index _ c.loop-index-test.true (sym c.in_err-checked.ensures.answer))
 
 pub loop-index-preserved : goal.loop-index-preserved
 loop-index-preserved c =
-    let p = c.args.positions in
-    let l = c.loop-index in
-    let e = position_at p l.index nothing c.loop-index-test.true (omega (arith, c.loop-index-test.true, c.requires)) in (
-      omega (arith, c.loop-index-test.true),
-      checking_turns _ l.invariant.1 (omega (arith, positions_count p, c.loop-index-test.true))
-          (ap normal (sym e) ∙ sym c.is_normal.ensures ∙ c.if-not-is_normal.false),
-    )
+    c.loop-index.invariant ∙ numbers_turn c.args.positions.now c.loop-index.index _ c.loop-index-test.true (sym c.in_ok-checked.ensures.answer)
 
 pub returns : goal.returns
-returns c =
-    let l = c in
-    let p = l.args.positions in
-    sym (checking_ends _ l.loop-index.invariant.1 (omega (arith, positions_count p, c.loop-index-test.false)))
+returns c = sym (c.loop-index.invariant ∙ numbers_end c.args.positions.now c.loop-index.index c.loop-index-test.false)

@@ -1,48 +1,12 @@
--- `positions_fall` meets its contract. The loop's invariant: no position before the index is below the one before it. The measure is the
--- positions left. Assumes nothing.
-use Prim.Native.Nat.{◌+◌}
-use mathlib.Core.Path.{ap, sym, subst, ◌∙◌}
-use mathlib.Core.Bool.{not, ◌&&◌}
-use native.Mathlib.Omega.{arith}
-use lib.Dec.{ltb}
-use Rattle.decimal.specs.declared.number.Number.{Number}
-use Rattle.decimal.specs.Number.{normal}
-use Rattle.decimal.proofs.NumberLaws.{zero_normal}
-use Rattle.rolls.specs.Falling.{at_most}
-use Rattle.rolls.specs.Searching.{position_list}
-use Rattle.rolls.proofs.PageLaws.{nothing, positions_count, position_at, all_normal, Rising, rising_starts, rising_turns, rising_stops, rising_ends}
+-- `positions_fall` meets its contract: whether each position and the next are in order tells it. Assumes nothing.
+use Rattle.std.proofs.Common.{rules, of_calls}
+use Rattle.std.proofs.lemmas.Fn.{always_returns_same}
+use Rattle.rolls.specs.Falling.{normal_at_most}
+use Rattle.rolls.proofs.FallLaws.{sorted_told}
+use Rattle.rolls.proofs.PageLaws.{all_normal}
 use Rattle.rolls.proofs.searching.positions_fall.Goals as goal
-
-pub loop-index-init : goal.loop-index-init
-loop-index-init c = (omega arith, zero_normal, rising_starts _ _)
-
-pub returns-then-is_fallen : goal.returns-then-is_fallen
-returns-then-is_fallen c =
-    let p = c.args.positions in
-    let l = c.loop-index in
-    let current = position_at p l.index nothing c.loop-index-test.true (omega (arith, c.loop-index-test.true, c.requires.0)) in
-    let is_normal = ap normal current ∙ all_normal (position_list p) c.requires.1 l.index (omega (arith, positions_count p, c.loop-index-test.true)) in
-    rising_stops _ l.invariant.2 (omega (arith, positions_count p, c.loop-index-test.true))
-    (sym c.if-is_fallen.true
-    ∙ c.is_fallen.ensures l.invariant.1 is_normal
-    ∙ ap (λ (n : Number). ltb 0 l.index && not (at_most l.last n)) current)
-
-pub loop-index-preserved : goal.loop-index-preserved
-loop-index-preserved c =
-    let p = c.args.positions in
-    let l = c.loop-index in
-    let current = position_at p l.index nothing c.loop-index-test.true (omega (arith, c.loop-index-test.true, c.requires.0)) in
-    let is_normal = ap normal current ∙ all_normal (position_list p) c.requires.1 l.index (omega (arith, positions_count p, c.loop-index-test.true)) in (
-      omega (arith, c.loop-index-test.true),
-      is_normal,
-      subst (λ (n : Number). Rising (position_list p) (l.index + 1) n) (sym current)
-          (rising_turns _ l.invariant.2 (omega (arith, positions_count p, c.loop-index-test.true))
-          (sym c.if-is_fallen.false
-          ∙ c.is_fallen.ensures l.invariant.1 is_normal
-          ∙ ap (λ (n : Number). ltb 0 l.index && not (at_most l.last n)) current)),
-    )
 
 pub returns : goal.returns
 returns c =
-    let p = c.args.positions in
-    rising_ends _ c.loop-index.invariant.2 (omega (arith, positions_count p, c.loop-index-test.false))
+    let ps = c.args.positions.now in
+    sorted_told ps (all_normal ps c.requires) c.is_sorted_by.result (c.is_sorted_by.ensures.cases normal_at_most (always_returns_same _ _ _ (λ a r f k. search (rules, of_calls))))

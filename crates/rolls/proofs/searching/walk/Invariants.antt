@@ -1,46 +1,34 @@
 -- `walk` meets its contract. The loop over the records keeps `Passing`: the keys that were read, whether they fall, and the walk over them.
 -- The loop over the positions keeps `Walking` with the record's key in front of the others, and the last loop keeps `Filling`. The measures are
 -- the bytes left, and the positions left. Assumes nothing.
-use Prim.Native.Nat.{ℕ, ◌+◌, ◌-◌, ◌≤◌}
-use mathlib.Core.Path.{◌≡◌}
-use mathlib.Core.List.{List, [], ◌∷◌}
-use lib.ListN.{length}
+use Rattle.std.proofs.Common.{◌≡◌, ◌+◌, ◌≤◌, List, [], ◌∷◌, length}
 use Rattle.decimal.specs.declared.number.Number.{Number}
-use Rattle.decimal.specs.Answer.{done}
-use Rattle.rolls.specs.Searching.{position_list, check_numbers, HasContents}
 use Rattle.rolls.proofs.WalkLaws.{Walking, Filling}
 use Rattle.rolls.proofs.PassLaws.{Passing}
 use Rattle.rolls.proofs.searching.walk.Given as goal
 
 abbrev pub invariant-settle : goal.invariant-settle
-invariant-settle l =
-    (l.next ≤ l.count)
-    × (l.comparisons ≤ l.next + l.record)
-    × ((ks : List Number)
-    → Walking (position_list l.positions) ks (l.number ∷ []) l.initial.next l.record l.initial.comparisons l.initial.records
-    → check_numbers 0 (position_list l.positions) ≡ done tt
-    → Walking (position_list l.positions) ks (l.number ∷ []) l.next l.record l.comparisons l.records)
+invariant-settle l = record {
+  settled : length l.records.items + length l.left ≡ length l.positions;
+  few : l.comparisons ≤ length l.records.items + l.record;
+  walks : (ks : List Number)
+      → Walking l.positions ks (l.number ∷ []) l.initial.left l.record l.initial.comparisons l.initial.records.items
+      → Walking l.positions ks (l.number ∷ []) l.left l.record l.comparisons l.records.items;
+}
 
 abbrev pub decreases-settle : goal.decreases-settle
-decreases-settle l = l.count - l.next
+decreases-settle l = length l.left
 
-abbrev pub invariant-loop-at : goal.invariant-loop-at
-invariant-loop-at l =
-    (l.next ≤ l.count)
-    × (l.comparisons ≤ l.next + l.record)
-    × (l.record ≤ l.at)
-    × ((h : HasContents l.file l.table) → Passing l.file h.table (position_list l.positions) l.records l.comparisons l.next l.falls l.last l.record l.at)
+abbrev pub invariant-loop-bodies : goal.invariant-loop-bodies
+invariant-loop-bodies l = Passing l.file l.table l.positions l.bodies l.left l.records.items l.comparisons l.record l.last l.falls
 
-abbrev pub decreases-loop-at : goal.decreases-loop-at
-decreases-loop-at l = length l.file - l.at
+abbrev pub decreases-loop-bodies : goal.decreases-loop-bodies
+decreases-loop-bodies l = length l.bodies
 
-abbrev pub invariant-loop-next : goal.invariant-loop-next
-invariant-loop-next l =
-    (l.next ≤ l.count)
-    × ((ps : List Number) (whole : List ℕ)
-    → length ps ≡ l.count
-    → Filling ps l.record whole l.initial.next l.initial.records
-    → Filling ps l.record whole l.next l.records)
-
-abbrev pub decreases-loop-next : goal.decreases-loop-next
-decreases-loop-next l = l.count - l.next
+abbrev pub invariant-loop : goal.invariant-loop
+invariant-loop l = record {
+  settled : length l.records.items + length l.items ≡ length l.positions + l.index;
+  fills : (ks : List Number)
+      → Walking l.positions ks [] l.items l.record l.comparisons l.initial.records.items
+      → Filling l.positions ks l.items l.record l.comparisons l.records.items l.index;
+}

@@ -22,16 +22,14 @@ pub returns-then-exponent-lt-EXPONENT_LOW : goal.returns-then-exponent-lt-EXPONE
 returns-then-exponent-lt-EXPONENT_LOW c =
     let a = c.args in
     let same = to_z-of_z w64 a.exponent c.ranges.exponent in
-    c.refused.ensures
-    ∙ sym (parts_below a.place a.negative a.mantissa (read a.exponent) c.if-exponent-lt-EXPONENT_LOW.true)
+    sym (parts_below a.place a.negative a.mantissa (read a.exponent) c.if-exponent-lt-EXPONENT_LOW.true)
     ∙ ap (parts_number a.place a.negative a.mantissa) same
 
 pub returns-then-exponent-gt-EXPONENT_HIGH : goal.returns-then-exponent-gt-EXPONENT_HIGH
 returns-then-exponent-gt-EXPONENT_HIGH c =
     let a = c.args in
     let same = to_z-of_z w64 a.exponent c.ranges.exponent in
-    c.refused-then-exponent-gt-EXPONENT_HIGH.ensures
-    ∙ sym (parts_above a.place a.negative a.mantissa (read a.exponent) c.if-exponent-gt-EXPONENT_HIGH.true)
+    sym (parts_above a.place a.negative a.mantissa (read a.exponent) c.if-exponent-gt-EXPONENT_HIGH.true)
     ∙ ap (parts_number a.place a.negative a.mantissa) same
 
 pub returns : goal.returns

@@ -16,7 +16,7 @@ use Rattle.decimal.proofs.NumberLaws.{
 use Rattle.decimal.proofs.number.Number.from_scaled.Goals as goal
 
 pub returns-then-whole-ge-MANTISSA_END : goal.returns-then-whole-ge-MANTISSA_END
-returns-then-whole-ge-MANTISSA_END c = c.refused.ensures ∙ sym (scaled_too_long _ _ _ _ _ (omega arith))
+returns-then-whole-ge-MANTISSA_END c = sym (scaled_too_long _ _ _ _ _ (omega arith))
 
 pub returns-then-whole-eq0 : goal.returns-then-whole-eq0
 returns-then-whole-eq0 c = sym (scaled_zero _ _ _ _ _ (omega arith))
@@ -31,8 +31,7 @@ returns-then-high-low c =
     let l = c in
     let a = l.args in
     let z = l.shift_left-shifted.ensures.0 in
-    c.refused-then-high-low.ensures
-    ∙ sym
+    sym
     (scaled_shifted a.place a.negative a.whole a.up a.down (omega arith) (omega arith)
     ∙ shifted_below a.place a.negative a.whole a.up a.down (leading_zeros precision a.whole) (omega arith))
 
@@ -41,8 +40,7 @@ returns-then-high-low-gt-EXPONENT_TOP c =
     let l = c in
     let a = l.args in
     let z = l.shift_left-shifted.ensures.0 in
-    c.refused-then-high-low-gt-EXPONENT_TOP.ensures
-    ∙ sym
+    sym
     (scaled_shifted a.place a.negative a.whole a.up a.down (omega arith) (omega arith)
     ∙ shifted_above a.place a.negative a.whole a.up a.down (leading_zeros precision a.whole) (omega arith) (omega arith))
 
