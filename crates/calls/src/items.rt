@@ -43,28 +43,27 @@ pub(crate) fn number_in(bytes: &[u8]) -> Number {
     }
 }
 
-// The elements of a list, up to LISTED.
-pub(crate) fn elements_in(bytes: &[u8]) -> ArrayVec<Element, LISTED> {
+// What is made of each element of a list, up to LISTED of them.
+fn made_of<T: Copy + Default, F: Fn(Element) -> T>(bytes: &[u8], make: F) -> ArrayVec<T, LISTED>
+    requires { F.IsAlwaysCallable make }
+{
     let (items, _) = bytes.as_chunks::<ITEM>();
-    let mut elements = ArrayVec::new();
+    let mut made = ArrayVec::new();
     for item in items {
-        if elements.is_full() {
+        if made.is_full() {
             break;
         }
-        elements.push(element_of(item));
+        made.push(make(element_of(item)));
     }
-    elements
+    made
+}
+
+// The elements of a list, up to LISTED.
+pub(crate) fn elements_in(bytes: &[u8]) -> ArrayVec<Element, LISTED> {
+    made_of(bytes, |element| element)
 }
 
 // The numbers of a list, up to LISTED.
 pub(crate) fn numbers_in(bytes: &[u8]) -> ArrayVec<Number, LISTED> {
-    let (items, _) = bytes.as_chunks::<ITEM>();
-    let mut numbers = ArrayVec::new();
-    for item in items {
-        if numbers.is_full() {
-            break;
-        }
-        numbers.push(number_of(element_of(item)));
-    }
-    numbers
+    made_of(bytes, |element| number_of(element))
 }

@@ -2,7 +2,7 @@
 use crate::items::{elements_in, number_in, numbers_in};
 use crate::shown::{
     print_buffer, print_bytes, print_check, print_count, print_number, print_numbers, print_parts,
-    print_raw, print_refusal, print_remainder, print_remainders, print_written,
+    print_places, print_raw, print_refusal, print_remainder, print_remainders, print_written,
 };
 use crate::words::whole;
 use codec::Stop;
@@ -189,11 +189,10 @@ pub(crate) fn report(out: &mut impl Write, buffer: &mut [u8], file: &[u8]) -> io
 }
 
 // Writes record numbers: as many as a page can have, zeros behind the last one.
-fn print_records(out: &mut impl Write, records: &[usize]) -> io::Result<()> {
-    for i in 0..POSITIONS {
-        print_count(out, records.get(i).copied().unwrap_or(0))?;
-    }
-    Ok(())
+fn print_records<W: Write>(out: &mut W, records: &[usize]) -> io::Result<()> {
+    print_places(out, records, POSITIONS, 0, |out, record| {
+        print_count(out, record)
+    })
 }
 
 // find FILE POSITIONS: the count of comparisons, and the record numbers.

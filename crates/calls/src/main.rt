@@ -18,39 +18,38 @@ const INPUT: usize = 1 << 18;
 // The most bytes of a word in hexadecimal.
 const SPACE: usize = 8192;
 
-// Makes a call. Its name stands as the whole number that its bytes are: compare, image, truncate; pack, cutoff, unpack, alpha, legal, read,
-// convert, place, numbers; scan, print, forecast, field; contents, add, show, list, report; find.
+// Makes the call of a name.
 fn make(
     out: &mut impl Write,
-    name: usize,
+    name: &[u8],
     first: &mut [u8],
     second: &[u8],
     third: &[u8],
     fourth: &[u8],
 ) -> io::Result<()> {
     match name {
-        0x636f6d70617265 => layers::compare(out, &*first, second),
-        0x696d616765 => layers::image(out, &*first, second),
-        0x7472756e63617465 => layers::truncate(out, &*first, second, third),
-        0x7061636b => layers::pack(out, first, second, third),
-        0x6375746f6666 => layers::cutoff(out, first, second, third),
-        0x756e7061636b => layers::unpack(out, &*first, second),
-        0x616c706861 => layers::alpha(out, first, second, third),
-        0x6c6567616c => layers::legal(out, &*first),
-        0x72656164 => layers::read(out, &*first),
-        0x636f6e76657274 => print_number(out, codec::convert(&*first)),
-        0x706c616365 => layers::place(out, &*first, second),
-        0x6e756d62657273 => layers::numbers(out, &*first, second),
-        0x7363616e => layers::scan(out, &*first, second),
-        0x7072696e74 => layers::print(out, first, second, third, fourth),
-        0x666f726563617374 => layers::forecast(out, &*first, second),
-        0x6669656c64 => print_number(out, records::read_field(&*first)),
-        0x636f6e74656e7473 => layers::contents(out, first, second),
-        0x616464 => layers::add(out, first, second, third),
-        0x73686f77 => layers::show(out, &*first, second),
-        0x6c697374 => layers::list(out, first, second),
-        0x7265706f7274 => layers::report(out, first, second),
-        0x66696e64 => layers::find(out, &*first, second),
+        b"compare" => layers::compare(out, &*first, second),
+        b"image" => layers::image(out, &*first, second),
+        b"truncate" => layers::truncate(out, &*first, second, third),
+        b"pack" => layers::pack(out, first, second, third),
+        b"cutoff" => layers::cutoff(out, first, second, third),
+        b"unpack" => layers::unpack(out, &*first, second),
+        b"alpha" => layers::alpha(out, first, second, third),
+        b"legal" => layers::legal(out, &*first),
+        b"read" => layers::read(out, &*first),
+        b"convert" => print_number(out, codec::convert(&*first)),
+        b"place" => layers::place(out, &*first, second),
+        b"numbers" => layers::numbers(out, &*first, second),
+        b"scan" => layers::scan(out, &*first, second),
+        b"print" => layers::print(out, first, second, third, fourth),
+        b"forecast" => layers::forecast(out, &*first, second),
+        b"field" => print_number(out, records::read_field(&*first)),
+        b"contents" => layers::contents(out, first, second),
+        b"add" => layers::add(out, first, second, third),
+        b"show" => layers::show(out, &*first, second),
+        b"list" => layers::list(out, first, second),
+        b"report" => layers::report(out, first, second),
+        b"find" => layers::find(out, &*first, second),
         _ => print_damaged(out),
     }
 }
@@ -81,7 +80,7 @@ fn answer_line(out: &mut impl Write, line: &[u8]) -> io::Result<()> {
     let d = decode(word(line, 4), &mut fourth);
     make(
         out,
-        whole(word(line, 0)),
+        word(line, 0),
         &mut first[..a],
         &second[..b],
         &third[..c],

@@ -77,7 +77,7 @@ pub(crate) fn print_number(
         Err(refusal) => print_refusal(out, refusal),
         Ok(number) => {
             print_raw(out, b"ok")?;
-            print_parts(out, number.negative, number.mantissa, number.exponent)
+            print_value(out, number)
         }
     }
 }
@@ -90,23 +90,41 @@ pub(crate) fn print_check(out: &mut impl Write, answer: Result<(), Refusal>) -> 
     }
 }
 
-// Writes a list of numbers: its count, and as many values as a list can have, zeros behind the last one.
-pub(crate) fn print_numbers(out: &mut impl Write, numbers: &[Number]) -> io::Result<()> {
-    print_count(out, numbers.len())?;
-    for i in 0..COLUMNS {
-        let number = numbers.get(i).copied().unwrap_or(Number::ZERO);
-        print_parts(out, number.negative, number.mantissa, number.exponent)?;
+// Writes what stands in so many places of a list, behind its last item what stands for none.
+pub(crate) fn print_places<W: Write, T: Copy, F: Fn(&mut W, T) -> io::Result<()>>(
+    out: &mut W,
+    items: &[T],
+    places: usize,
+    none: T,
+    print: F,
+) -> io::Result<()>
+    requires { F.IsAlwaysCallable print }
+{
+    for i in 0..places {
+        print(out, items.get(i).copied().unwrap_or(none))?;
     }
     Ok(())
 }
 
+// Writes a blank and a number's parts.
+fn print_value(out: &mut impl Write, number: Number) -> io::Result<()> {
+    print_parts(out, number.negative, number.mantissa, number.exponent)
+}
+
+// Writes a list of numbers: its count, and as many values as a list can have, zeros behind the last one.
+pub(crate) fn print_numbers<W: Write>(out: &mut W, numbers: &[Number]) -> io::Result<()> {
+    print_count(out, numbers.len())?;
+    print_places(out, numbers, COLUMNS, Number::ZERO, |out, number| {
+        print_value(out, number)
+    })
+}
+
 // Writes a list of remainders: its count, and as many values as a list can have, zeros behind the last one.
-pub(crate) fn print_remainders(out: &mut impl Write, remainders: &[Remainder]) -> io::Result<()> {
+pub(crate) fn print_remainders<W: Write>(out: &mut W, remainders: &[Remainder]) -> io::Result<()> {
     print_count(out, remainders.len())?;
-    for i in 0..COLUMNS {
-        print_remainder(out, remainders.get(i).copied().unwrap_or(Remainder::ZERO))?;
-    }
-    Ok(())
+    print_places(out, remainders, COLUMNS, Remainder::ZERO, |out, left| {
+        print_remainder(out, left)
+    })
 }
 
 // Writes the answer of a call that writes, what it wrote, and the whole buffer.

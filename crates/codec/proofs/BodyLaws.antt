@@ -21,7 +21,7 @@ use Rattle.codec.specs.Answers.{within, written}
 use Rattle.codec.specs.Columns.{column_size, body_size}
 use Rattle.codec.specs.Contents.{read_alone, check_images}
 use Rattle.codec.specs.Packing.AllPack.{none, one}
-use Rattle.codec.specs.Packing.{column_bytes, pack_columns, pack_list, body_of, packing_under, pack_under, packing, PacksUnder, AllPack}
+use Rattle.codec.specs.Packing.{column_bytes, pack_columns, pack_list, body_of, packing_under, pack_under, packing, AllPack}
 use Rattle.codec.proofs.UnderLaws.{pack_under_checked}
 use borrow.Rule.Slice.PartMut.{put_mid}
 use Rattle.codec.proofs.BufferLaws.{part_written, written_next, written_all}

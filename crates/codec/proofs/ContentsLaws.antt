@@ -1,11 +1,11 @@
 -- Laws of contents: what reading one tells. Assumes nothing.
 use Prim.Native.Nat.{ℕ, zero, suc, ◌+◌, ◌-◌, ◌*◌, ◌<◌, ◌≤◌}
-use mathlib.Core.Path.{◌≡◌, refl, ap, ap₂, sym, subst, ◌∙◌}
+use mathlib.Core.Path.{◌≡◌, refl, ap, sym, subst, ◌∙◌}
 use mathlib.Core.Bool.{Bool, true, false, ◌&&◌}
 use mathlib.Core.List.{List, [], ◌∷◌, ◌++◌, append_assoc, append-nil}
 use native.Mathlib.Omega.{arith}
 use native.Mathlib.Numerals.{add-one}
-use lib.ListN.{length, take, drop, get_or, set, length-append, length-drop, drop_of_length-le}
+use lib.ListN.{length, take, drop, get_or, length-append, length-drop}
 use lib.Seq.{drop-drop, get_or-drop}
 use lib.Dec.{ltb, leb, eqb}
 use borrow.Author.Tests.{lt-ltb, le-ltb, ltb-false, leb-true, le-leb, lt-leb, eqb-true, eq-eqb, ne_eqb}
@@ -18,7 +18,7 @@ use Rattle.decimal.specs.Answer.{Answer, done, refused, ◌then◌, pick, mapped
 use Rattle.decimal.specs.Image.{read_image}
 use Rattle.decimal.proofs.BoolLaws.{and_true}
 use Rattle.decimal.proofs.ImageLaws.{read_done}
-use Rattle.decimal.proofs.AnswerLaws.{never_done, done_same, then_done, mapped_back, mapped_done, mapped_refused}
+use Rattle.decimal.proofs.AnswerLaws.{never_done, done_same, then_done, mapped_back, mapped_done}
 use Rattle.codec.specs.declared.contents.Contents.{Contents}
 use Rattle.codec.specs.Lists.{max_columns}
 use Rattle.codec.proofs.ListLaws.{behind_place}

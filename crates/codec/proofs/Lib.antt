@@ -8,10 +8,12 @@ pub mod UnderLaws
 pub mod HalfLaws
 pub mod FitLaws
 pub mod RunLaws
+pub mod ParityLaws
 pub mod PackLaws
 pub mod BodyLaws
 pub mod RoomTheorem
 pub mod RemainderLaws
+pub mod WorthLaws
 pub mod UnpackLaws
 pub mod OrderTheorem
 pub mod ColumnTheorem

@@ -1,16 +1,16 @@
 -- Laws of what packing leaves of its numbers, column by column. Assumes nothing.
 use Prim.Native.Nat.{ℕ, zero, suc, ◌+◌, ◌<◌, ◌≤◌}
-use mathlib.Core.Path.{◌≡◌, refl, ap, ap₂, sym, subst, ◌∙◌}
+use mathlib.Core.Path.{◌≡◌, refl, ap, ap₂, sym, ◌∙◌}
 use mathlib.Core.List.{List, [], ◌∷◌, ◌++◌}
 use native.Mathlib.Omega.{arith}
 use native.Mathlib.Numerals.{add-one}
-use lib.ListN.{length, take, get_or, set}
+use lib.ListN.{length, take, get_or}
 use Rattle.std.proofs.lemmas.List.{take_all}
 use Rattle.decimal.specs.declared.image.Image.{Image}
 use Rattle.decimal.specs.declared.number.Number.{Number}
 use Rattle.decimal.specs.declared.remainder.Remainder.{Remainder}
 use Rattle.decimal.specs.Answer.{Answer, done, refused, ◌then◌}
-use Rattle.decimal.specs.Truncation.{truncated_to, Fit}
+use Rattle.decimal.specs.Truncation.{truncated_to}
 use Rattle.decimal.specs.Remainder.{cut_off, remainder}
 use Rattle.decimal.proofs.AnswerLaws.{done_same, then_next, then_refused}
 use Rattle.decimal.proofs.RemainderLaws.{remainder_fit}

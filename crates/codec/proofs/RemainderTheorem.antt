@@ -1,22 +1,25 @@
 -- Document 02, (ii): packing gives remainders exactly where it gives a body, one per column, each what the truncation that packing uses
 -- leaves; with what the body is read back as they make the magnitudes that were packed. Assumes nothing.
-use Prim.Native.Nat.{ℕ, suc, ◌<◌}
+use Prim.Native.Nat.{ℕ, suc}
 use mathlib.Core.Path.{◌≡◌, refl, ap, ap₂, sym, subst, ◌∙◌}
-use mathlib.Core.List.{List, [], ◌∷◌}
+use mathlib.Core.List.{List, ◌∷◌}
+use Rattle.std.proofs.Common.{Result, Ok, Err}
+use Rattle.decimal.specs.declared.refusal.Refusal.{Refusal}
+use Rattle.codec.specs.declared.remainders.Packed.{Packed}
 use Rattle.decimal.specs.declared.image.Image.{Image}
 use Rattle.decimal.specs.declared.number.Number.{Number}
 use Rattle.decimal.specs.declared.remainder.Remainder.{Remainder}
-use Rattle.decimal.specs.Answer.{Answer, done, refused}
+use Rattle.decimal.specs.Answer.{Answer, done, refused, mapped, meaning}
 use Rattle.decimal.specs.Truncation.{Truncated, truncated_to}
 use Rattle.decimal.specs.Remainder.{IsRemainder}
-use Rattle.decimal.proofs.AnswerLaws.{never, one_answer, refused_first}
+use Rattle.decimal.proofs.AnswerLaws.{never, never_done, done_same, one_answer, refused_first}
 use Rattle.decimal.proofs.RemainderLaws.{remainder_fit}
 use Rattle.decimal.proofs.RemainderTheorem.{left_once, fit_left, remainder_exactly}
 use Rattle.codec.specs.Contents.{IsContents, Table, read_alone}
 use Rattle.codec.specs.Order.{Truncations}
 use Rattle.codec.specs.Packing.{packing, AllPack}
 use Rattle.codec.specs.Unpacking.{unpacking}
-use Rattle.codec.specs.Remainders.{packing_remainders, RemainderEach, SumEach, RemaindersExactly}
+use Rattle.codec.specs.Remainders.{packing_remainders, remainders_of, RemainderEach, SumEach, RemaindersExactly}
 use Rattle.codec.proofs.ContentsTheorem.{alone_exactly, contents_unique}
 use Rattle.codec.proofs.PackLaws.{packed_anywhere, packs_under, packs_fit}
 use Rattle.codec.proofs.RoomTheorem.{packing_body}
@@ -47,6 +50,22 @@ unfolding left_of
 packs_sum AllPack.none Truncations.none = SumEach.none
 packs_sum (AllPack.one {im} {n} p ps) (Truncations.one cut others) =
     SumEach.one ((remainder_exactly 0 im n).number_sum (cut 0) (remainder_fit im n (packs_fit p) 0)) (packs_sum ps others)
+
+-- What a call gives.
+
+-- Published: where there are remainders, a call's list is that of them, and has no place behind the last one;
+pub list_places : (r : Result Packed Refusal) {rs : List Remainder}
+    → mapped remainders_of (meaning r) ≡ done rs
+    → (p : Packed) × (r ≡ Ok p) × (p.remainders.items ≡ rs)
+unfolding mapped
+list_places (Ok p) h = (p, refl, done_same h)
+list_places (Err e) h = never_done h
+
+-- where there are none, it has no list.
+no_list : (r : Result Packed Refusal) {number place : ℕ} → mapped remainders_of (meaning r) ≡ refused number place → (e : Refusal) × (r ≡ Err e)
+unfolding mapped
+no_list (Ok p) h = never_done (sym h)
+no_list (Err e) h = (e, refl)
 
 -- The packing call.
 
@@ -92,6 +111,13 @@ module _ (contents : List ℕ) (ns : List Number) (room : ℕ) where
   unfolding packing_remainders
   refused_as number place h =
       refused_first (packing contents ns room) _ (λ body e. (left_of (body_read e).0.images ns, body_left contents ns room (body_read e).1 e)) h
+
+  -- Published: where packing is refused, the call that gives the remainders is too, and has no list.
+  pub refused_places : (r : Result Packed Refusal) {number place : ℕ}
+      → mapped remainders_of (meaning r) ≡ packing_remainders contents ns room
+      → packing contents ns room ≡ refused number place
+      → (e : Refusal) × (r ≡ Err e)
+  refused_places r given h = no_list r (given ∙ left_refused contents ns room h)
 
   -- what the body is read back as, and the remainders
   back_sum :

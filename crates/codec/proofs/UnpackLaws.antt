@@ -7,64 +7,53 @@ use mathlib.Core.Bool.{Bool, true, false, not, ◌&&◌}
 use native.Mathlib.Nat.{mod-lt}
 use native.Mathlib.Numerals.{add-one}
 use native.Mathlib.Omega.{arith}
-use borrow.Author.Tests.{lt-ltb, le-ltb, ltb-true, le-leb, lt-leb, eq-eqb, ne_eqb}
+use borrow.Author.Tests.{lt-ltb, le-ltb, ltb-true, eq-eqb, ne_eqb}
 use lib.Arith.{digits_div, digits_mod}
-use lib.Dec.{ltb, leb, eqb}
+use lib.Dec.{ltb}
 use lib.ListN.{length, take, drop, get_or, length-append, length-drop, take-append-drop, drop_of_length-le}
 use lib.Seq.{drop-cons, drop-drop, length-take-le, append_snoc}
-use Rattle.std.specs.Prelude.{Result, Ok, Err}
-use Rattle.std.specs.Result.{result_or}
 use Rattle.decimal.specs.declared.image.Sign.{Sign}
 use Rattle.decimal.specs.declared.image.Sign.TheVariants.{Unsigned, Plus, Minus}
 use Rattle.decimal.specs.declared.image.Image.{Image}
 use Rattle.decimal.specs.declared.number.Number.{Number}
-use Rattle.decimal.specs.declared.refusal.Reason.TheVariants.{BadHalf}
-use Rattle.decimal.specs.declared.refusal.Refusal.{Refusal}
-use Rattle.decimal.specs.Answer.{Answer, done, refused, ◌then◌, pick, meaning, mapped}
+use Rattle.decimal.specs.Answer.{Answer, done, refused, ◌then◌, pick}
 use Rattle.decimal.specs.Digits.{value_of, Digits}
 use Rattle.decimal.specs.Image.{hashes}
-use Rattle.decimal.specs.Number.{exponent_limit, scaled_number}
-use Rattle.decimal.specs.Truncation.{number_of}
 use Rattle.decimal.proofs.BoolLaws.{and_true, zero_or_not}
 use Rattle.decimal.proofs.DigitLaws.{le_or_lt, value_append, value_below}
 use Rattle.decimal.proofs.PowerLaws.{pow10_suc, pow10_mono, times_ten}
-use Rattle.decimal.proofs.AnswerLaws.{then_same}
+use Rattle.decimal.proofs.AnswerLaws.{never_done, then_same}
 use Rattle.codec.specs.Lists.{any_of}
-use Rattle.codec.specs.Columns.{sign_count, exponent_count, half_count, pad_count, column_size, body_size, Checked, AllChecked}
+use Rattle.codec.specs.Columns.{sign_count, exponent_count, half_count, pad_count, column_size, body_size, Checked}
 use Rattle.codec.specs.Contents.{read_alone, check_images}
 use Rattle.codec.proofs.ContentsLaws.{column_halves_lem, column_few}
 use Rattle.codec.proofs.UnderLaws.{unpack_under_checked}
 use Rattle.codec.specs.Halves.{halves_of}
-use Rattle.codec.specs.Worths.{worth_of}
-use Rattle.codec.specs.Unpacking.{all_digits, all_zero, sign_part, digit_part, exponent_part, pad_part, minus_bit, below_bit, said_by, breaks_rules, as_half, parts_number, halves_number, unpack_column, unpack_columns, unpack_body, unpack_under, unpacking, read_on, first_half, unpadded_number, run_number, run_limit}
+use Rattle.codec.specs.Unpacking.{all_digits, all_zero, sign_part, digit_part, exponent_part, pad_part, parts_number, halves_number, unpack_column, unpack_columns, unpack_body, unpack_under, unpacking, read_on, first_half, unpadded_number, run_number, run_limit}
 
 -- Reading digits on.
 
 -- a byte with two digits is read at once
 two_read :
-    (h l v w : ℕ) (hs : List ℕ)
-    → w ≡ pick (ltb h 10 && ltb l 10) (h * 10 + l) 255
-    → (w ≡ 255 → ⊥)
-    → (read_on v (h ∷ (l ∷ hs)) ≡ read_on (v * 100 + w) hs) × (w < 100)
+    (h l v w : ℕ) (hs : List ℕ) → done w ≡ read_on 0 (h ∷ (l ∷ [])) → (read_on v (h ∷ (l ∷ hs)) ≡ read_on (v * 100 + w) hs) × (w < 100)
 unfolding read_on
-two_read h l v w hs e some = go (ltb h 10) (ltb l 10) refl refl
+two_read h l v w hs worth = go (ltb h 10) (ltb l 10) refl refl
   where
     go : (a b : Bool) → ltb h 10 ≡ a → ltb l 10 ≡ b → (read_on v (h ∷ (l ∷ hs)) ≡ read_on (v * 100 + w) hs) × (w < 100)
     go true true p q =
-        let worth : w ≡ h * 10 + l = e ∙ rw (p, q) in
+        let same : done w ≡ done ((0 * 10 + h) * 10 + l) = worth ∙ rw (p, q) in
+        let value : w ≡ (0 * 10 + h) * 10 + l = cc in
         (rw (p, q) (ap (λ (k : ℕ). read_on k hs) (omega arith)), omega (arith, ltb-true h 10 p, ltb-true l 10 q))
-    go true false p q = absurd (some (e ∙ rw (p, q)))
-    go false b p q = absurd (some (e ∙ rw p))
+    go true false p q = let other : done w ≡ refused 7 0 = worth ∙ rw (p, q) in never_done (sym other)
+    go false b p q = let other : done w ≡ refused 7 0 = worth ∙ rw p in never_done (sym other)
 
 -- a byte with another half ends the reading
-two_bad : (h l v : ℕ) (hs : List ℕ) → pick (ltb h 10 && ltb l 10) (h * 10 + l) 255 ≡ 255 → read_on v (h ∷ (l ∷ hs)) ≡ refused 7 0
+two_bad : (h l v : ℕ) (hs : List ℕ) → refused 7 0 ≡ read_on 0 (h ∷ (l ∷ [])) → read_on v (h ∷ (l ∷ hs)) ≡ refused 7 0
 unfolding read_on
-two_bad h l v hs e = go (ltb h 10) (ltb l 10) refl refl
+two_bad h l v hs worth = go (ltb h 10) (ltb l 10) refl refl
   where
     go : (a b : Bool) → ltb h 10 ≡ a → ltb l 10 ≡ b → read_on v (h ∷ (l ∷ hs)) ≡ refused 7 0
-    go true true p q =
-        let same : h * 10 + l ≡ 255 = sym (rw (p, q)) ∙ e in
-        absurd (omega (arith, ltb-true h 10 p, ltb-true l 10 q))
+    go true true p q = let other : refused 7 0 ≡ done ((0 * 10 + h) * 10 + l) = worth ∙ rw (p, q) in never_done other
     go true false p q = rw (p, q)
     go false b p q = rw p
 
@@ -77,14 +66,14 @@ pub record ReadingRun (bytes : List ℕ) (whole : Answer ℕ) (value i : ℕ) : 
 pub run_starts : (bytes : List ℕ) (start : ℕ) → start < 10 → ReadingRun bytes (read_on start (halves_of bytes)) start 0
 run_starts bytes start digit = record { small = omega arith; rest = refl }
 
-module _ {bytes : List ℕ} {whole : Answer ℕ} {value i w : ℕ} (r : ReadingRun bytes whole value i) (more : i < length bytes)
-    (worth : w ≡ worth_of (get_or bytes i 0)) where
+module _ {bytes : List ℕ} {whole : Answer ℕ} {value i : ℕ} (r : ReadingRun bytes whole value i) (more : i < length bytes) where
   -- a byte with two digits is read
-  pub run_turns : (w ≡ 255 → ⊥) → ReadingRun bytes whole (value * 100 + w) (i + 1)
-  unfolding halves_of worth_of
-  run_turns some =
+  pub run_turns :
+      {w : ℕ} → done w ≡ read_on 0 (halves_of (get_or bytes i 0 ∷ [])) → ReadingRun bytes whole (value * 100 + w) (i + 1)
+  unfolding halves_of
+  run_turns {w} worth =
       let b = get_or bytes i 0 in
-      let two = two_read (b / 16) (b % 16) value w (halves_of (drop (suc i) bytes)) worth some in
+      let two = two_read (b / 16) (b % 16) value w (halves_of (drop (suc i) bytes)) worth in
       let count : suc (i + 1 + (i + 1)) ≡ suc (suc (suc (i + i))) = omega arith in
       let power : 10 ^ suc (i + 1 + (i + 1)) ≡ 10 * (10 * 10 ^ suc (i + i)) =
       ap (λ (n : ℕ). 10 ^ n) count ∙ pow10_suc (suc (suc (i + i))) ∙ ap (λ (n : ℕ). 10 * n) (pow10_suc (suc (i + i))) in
@@ -94,13 +83,13 @@ module _ {bytes : List ℕ} {whole : Answer ℕ} {value i w : ℕ} (r : ReadingR
       }
 
   -- a byte with another half
-  pub run_stops : w ≡ 255 → whole ≡ refused 7 0
-  unfolding halves_of worth_of
-  run_stops none =
+  pub run_stops : refused 7 0 ≡ read_on 0 (halves_of (get_or bytes i 0 ∷ [])) → whole ≡ refused 7 0
+  unfolding halves_of
+  run_stops worth =
       let b = get_or bytes i 0 in
       sym r.rest
       ∙ ap (λ (l : List ℕ). read_on value (halves_of l)) (drop-cons bytes i 0 more)
-      ∙ two_bad (b / 16) (b % 16) value (halves_of (drop (suc i) bytes)) (sym worth ∙ none)
+      ∙ two_bad (b / 16) (b % 16) value (halves_of (drop (suc i) bytes)) worth
 
 -- so many digits are within a u64
 pub run_small : {bytes : List ℕ} {whole : Answer ℕ} {value i : ℕ} → ReadingRun bytes whole value i → i < 9 → value < 10 ^ 17
@@ -112,10 +101,10 @@ unfolding halves_of read_on
 run_ends {bytes} {whole} {value} {i} r h =
     sym (ap (λ (l : List ℕ). read_on value (halves_of l)) (drop_of_length-le bytes h)) ∙ r.rest
 
--- the worth of two digits is below 100
-pub worth_below : (b : ℕ) {w : ℕ} → w ≡ worth_of b → (w ≡ 255 → ⊥) → w < 100
-unfolding worth_of
-worth_below b {w} e some = (two_read (b / 16) (b % 16) 0 w [] e some).1
+-- the worth of a byte is below 100
+pub worth_below : (b : ℕ) {w : ℕ} → done w ≡ read_on 0 (halves_of (b ∷ [])) → w < 100
+unfolding halves_of
+worth_below b {w} worth = (two_read (b / 16) (b % 16) 0 w [] worth).1
 
 -- the first byte behind its sign half, where that is no digit
 pub first_bad : (bytes : List ℕ) → 0 < length bytes → 9 < get_or bytes 0 0 % 16 → read_on 0 (drop 1 (halves_of bytes)) ≡ refused 7 0
@@ -361,135 +350,6 @@ module _ (column : ℕ) (im : Image) (bytes : List ℕ) (checked : Checked im) (
   -- a column with another half
   pub column_bad : read_on 0 (drop signs (halves_of bytes)) ≡ refused 7 0 → unpack_column column im bytes ≡ refused 7 column
   column_bad h = column_whole ∙ rw (read_none (drop signs (halves_of bytes)) h)
-
--- The rules, in the code's order.
-
--- a conjunction whose last part is false
-and_none : (b : Bool) → (b && false) ≡ false
-and_none true = refl
-and_none false = refl
-
-module _ (im : Image) (sign whole size : ℕ) where
-  -- another sign half
-  pub breaks_other : 2 ≤ sign % 8 → breaks_rules im sign whole size ≡ true
-  unfolding breaks_rules
-  breaks_other h = rw (le-leb 2 (sign % 8) h)
-
-  module _ (low : sign % 8 < 2) where
-    module _ (none : whole ≡ 0) where
-      -- a minus on zero
-      pub breaks_minus : sign % 8 ≡ 1 → breaks_rules im sign whole size ≡ true
-      unfolding breaks_rules
-      breaks_minus minus = rw (lt-leb 2 (sign % 8) low, eq-eqb (sign % 8) 1 minus, eq-eqb whole 0 none)
-
-      module _ (plus : sign % 8 ≡ 1 → ⊥) where
-        -- zero with a negative x
-        pub breaks_zero_below : 8 ≤ sign → breaks_rules im sign whole size ≡ true
-        unfolding breaks_rules
-        breaks_zero_below below =
-            ⊎_elim
-            (λ (z : size ≡ 0).
-            rw (lt-leb 2 (sign % 8) low, ne_eqb (sign % 8) 1 plus, le-leb 8 sign below, eq-eqb size 0 z))
-            (λ (n : size ≡ 0 → ⊥).
-            let more : 1 ≤ size = omega arith in
-            rw (lt-leb 2 (sign % 8) low, ne_eqb (sign % 8) 1 plus, le-leb 8 sign below, ne_eqb size 0 n, eq-eqb whole 0 none, le-leb 1 size more))
-            (zero_or_not size)
-
-        -- zero with another x
-        pub breaks_zero_above : sign < 8 → leb 1 size ≡ breaks_rules im sign whole size
-        unfolding breaks_rules
-        breaks_zero_above above =
-            let under : whole < 1 = omega arith in
-            rw (lt-leb 2 (sign % 8) low, ne_eqb (sign % 8) 1 plus, lt-leb 8 sign above, eq-eqb whole 0 none, lt-leb 1 whole under, and_none im.exponential)
-            (same (leb 1 size))
-          where
-            same : (b : Bool) → b ≡ pick b true false
-            same true = refl
-            same false = refl
-
-    module _ (some : whole ≡ 0 → ⊥) where
-      -- an 8 where x is 0
-      pub breaks_below : 8 ≤ sign → size ≡ 0 → breaks_rules im sign whole size ≡ true
-      unfolding breaks_rules
-      breaks_below below z =
-          rw (lt-leb 2 (sign % 8) low, ne_eqb whole 0 some, and_none (eqb (sign % 8) 1), le-leb 8 sign below, eq-eqb size 0 z)
-
-      -- else only the first digit counts
-      pub breaks_first :
-          (8 ≤ sign → size ≡ 0 → ⊥)
-          → (b : Bool)
-          → im.exponential ≡ b
-          → breaks_rules im sign whole size ≡ pick b (ltb (whole * 10) (10 ^ hashes im)) false
-      unfolding breaks_rules
-      breaks_first placed b kind =
-          let more : 1 ≤ whole = omega arith in
-          rw (lt-leb 2 (sign % 8) low, ne_eqb whole 0 some, and_none (eqb (sign % 8) 1), third, le-leb 1 whole more, kind)
-          (last b (ltb (whole * 10) (10 ^ hashes im)))
-        where
-          third : (leb 8 sign && eqb size 0) ≡ false
-          third =
-              ⊎_elim
-              (λ (h : 8 ≤ sign). rw (ne_eqb size 0 (placed h)) (and_none (leb 8 sign)))
-              (λ (h : sign < 8). rw (lt-leb 8 sign h))
-              (le_or_lt 8 sign)
-
-          last : (b f : Bool) → pick (b && f) true false ≡ pick b f false
-          last true true = refl
-          last true false = refl
-          last false f = refl
-
--- The number, in the code's order.
-
--- whatever a number is refused with, the code says 7 and the column
-pub half_or :
-    (column : ℕ) (r : Result Number Refusal)
-    → meaning (result_or r (Err (record { reason = BadHalf; place = column }))) ≡ as_half column (meaning r)
-unfolding as_half
-half_or column (Ok n) = refl
-half_or column (Err e) = refl
-
-module _ (column : ℕ) (im : Image) (sign : ℕ) where
-  -- parts that break a rule
-  pub parts_broken : (whole size : ℕ) → breaks_rules im sign whole size ≡ true → parts_number column im sign whole size ≡ refused 7 column
-  unfolding parts_number
-  parts_broken whole size h = rw h
-
-  -- parts that break none
-  pub parts_kept :
-      (whole size : ℕ)
-      → breaks_rules im sign whole size ≡ false
-      → parts_number column im sign whole size
-      ≡ as_half column
-      (scaled_number column (minus_bit sign) whole (pick (below_bit sign) (exponent_limit - size) (exponent_limit + size)) (exponent_limit + im.fraction))
-  unfolding parts_number number_of said_by
-  parts_kept whole size h = rw h
-
-  -- the parts of an exponential image
-  pub unpadded_exponential :
-      (value : ℕ) → im.exponential ≡ true → unpadded_number column im sign value ≡ parts_number column im sign (value / 100) (value % 100)
-  unfolding unpadded_number
-  unpadded_exponential value kind = rw kind
-
-  -- and of one in fixed point
-  pub unpadded_fixed : (value : ℕ) → im.exponential ≡ false → unpadded_number column im sign value ≡ parts_number column im sign value 0
-  unfolding unpadded_number
-  unpadded_fixed value kind = rw kind
-
-  -- no padding
-  pub run_even : (value : ℕ) → pad_count im ≡ 0 → run_number column im sign value ≡ unpadded_number column im sign value
-  unfolding run_number
-  run_even value even = rw (eq-eqb (pad_count im) 0 even)
-
-  -- a padding that is 0
-  pub run_zero :
-      (value : ℕ) → (pad_count im ≡ 0 → ⊥) → value % 10 ≡ 0 → run_number column im sign value ≡ unpadded_number column im sign (value / 10)
-  unfolding run_number
-  run_zero value odd z = rw (ne_eqb (pad_count im) 0 odd, eq-eqb (value % 10) 0 z)
-
-  -- another padding
-  pub run_other : (value : ℕ) → (pad_count im ≡ 0 → ⊥) → (value % 10 ≡ 0 → ⊥) → run_number column im sign value ≡ refused 7 column
-  unfolding run_number
-  run_other value odd n = rw (ne_eqb (pad_count im) 0 odd, ne_eqb (value % 10) 0 n)
 
 -- The columns, from the left.
 

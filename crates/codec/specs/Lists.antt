@@ -20,7 +20,7 @@ any_of (b ∷ bs) = pick b true (any_of bs)
 abbrev pub max_columns : ℕ
 max_columns = 16
 
--- the image that the code's vectors have where there is none
+-- the image taken where a list has none
 abbrev pub no_image : Image
 no_image = record { sign = Unsigned; integer = 0; fraction = 0; exponential = false }
 

@@ -1,7 +1,7 @@
 -- Document 01, Record file: "A text walker may be a small record that refers to the lent text". What it reads are text numbers.
 use Rattle.std.specs.Prelude.{ℕ, zero, suc, ◌+◌, ◌<◌, ◌≤◌, ◌≡◌, List, [], ◌∷◌, ◌++◌, length, drop, eqb}
 use Rattle.decimal.specs.declared.number.Number.{Number}
-use Rattle.decimal.specs.Answer.{Answer, done, refused, ◌then◌, pick, meaning}
+use Rattle.decimal.specs.Answer.{Answer, done, refused, pick, meaning}
 use Rattle.codec.specs.declared.walking.Walker.{Walker}
 use Rattle.codec.specs.declared.walking.Stop.{Stop}
 use Rattle.codec.specs.declared.walking.Stop.TheVariants as gives

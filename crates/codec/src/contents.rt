@@ -10,7 +10,7 @@ use crate::lists::{COLUMNS, Images};
 use decimal::{Image, Refusal, read_image};
 
 // A contents: its images, its own length in bytes, and the length of a body under it.
-#[derive(Drop)]
+#[derive(Clone, Debug, PartialEq, Eq, Hash, Drop)]
 pub struct Contents {
     pub images: Images,
     pub size: usize,
@@ -18,6 +18,7 @@ pub struct Contents {
 }
 
 // The count of bytes in a body under images that a contents can have.
+// That they are at most 16 stands in the contracts: images are lent as a slice, by callers that have no contents too.
 pub(crate) fn body_size(images: &[Image]) -> usize
     requires { (length images.now ≤ max_columns) × AllChecked images.now }
     ensures { result ≡ body_size images.now }

@@ -15,6 +15,8 @@ use crate::contents::{body_size, check_images, read_alone};
 use crate::halves::write_run;
 use decimal::{EXPONENT_LIMIT, Image, Number, Refusal, Truncation, fit_packed, truncate};
 
+// What is known of a truncation and its image stands in the contracts and not in a type: anyone can fill one in, and every call takes any.
+
 // The size |x| of a stored exponent that is held as x + EXPONENT_LIMIT.
 pub(crate) fn exponent_size(x: usize) -> u8
     requires { x ≤ 2 * exponent_limit }
@@ -92,6 +94,7 @@ fn check_numbers(images: &[Image], numbers: &[Number]) -> Result<(), Refusal>
 }
 
 // Writes the columns of numbers that can be packed, one behind the other.
+// The loop goes by column numbers: it takes from two lists, and a proof knows no element of their zip.
 fn write_columns(images: &[Image], numbers: &[Number], body: &mut [u8])
     requires { (AllPack images.now numbers.now) × (length body.old ≡ body_size images.now) }
     ensures { pack_columns 0 images.now numbers.now ≡ done body.new }

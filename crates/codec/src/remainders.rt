@@ -12,7 +12,7 @@ use crate::packing::pack_under;
 use decimal::{Image, Number, Refusal, Remainder, remainder_of};
 
 // How many bytes packing wrote, and what truncation cut off the numbers that it packed, one remainder for each column.
-#[derive(Drop)]
+#[derive(Clone, Debug, PartialEq, Eq, Hash, Drop)]
 pub struct Packed {
     pub size: usize,
     pub remainders: Remainders,

@@ -24,7 +24,8 @@ use decimal::{EXPONENT_LIMIT, Number, PRECISION, Reason, Refusal, Sign, leading_
 const EXPONENT_DIGITS: usize = 2;
 
 // The longest beginning of a text that is a text number: its length, and its number or 5; where there is none, length 0 and 8.
-#[derive(Clone, Copy)]
+// The length stands beside the answer and not in it, since a number that is refused with 5 uses bytes too.
+#[derive(Clone, Copy, Debug, PartialEq, Eq, Hash)]
 pub struct Reading {
     pub used: usize,
     pub number: Result<Number, Refusal>,
@@ -55,6 +56,8 @@ struct DigitRun {
     value: u64,
     count: usize,
 }
+
+// In the next three no byte used says that there is nothing: what stands behind it is then at the same place, with no case of its own.
 
 // A point and digits behind it, or nothing: the whole number that all digits now make, the digits behind the point, the bytes used.
 #[derive(Clone, Copy)]

@@ -1,52 +1,46 @@
 // Reading a body back (document 01: Packed bodies).
-ghost use Rattle.std.specs.Prelude.{◌≡◌, ◌+◌, ◌-◌, ◌*◌, ◌/◌, ◌%◌, ◌^◌, ◌<◌, ◌≤◌, ltb, length, drop};
-ghost use Rattle.decimal.specs.Answer.{Answer, meaning, mapped, pick};
+ghost use Rattle.std.specs.Prelude.{◌≡◌, ◌*◌, ◌^◌, ◌<◌, ◌≤◌, ltb, length, drop};
+ghost use Rattle.decimal.specs.Answer.{meaning, mapped};
 ghost use Rattle.decimal.specs.Digits.{precision};
 ghost use Rattle.decimal.specs.Image.{hashes};
 ghost use Rattle.decimal.specs.Number.{exponent_limit};
 ghost use Rattle.codec.specs.Lists.{max_columns, items_of};
 ghost use Rattle.codec.specs.Columns.{column_size, body_size, Checked, AllChecked};
 ghost use Rattle.codec.specs.Halves.{halves_of};
-ghost use Rattle.codec.specs.Worths.{IsWorths};
-ghost use Rattle.codec.specs.Unpacking.{below_bit, breaks_rules, parts_number, unpack_column, unpack_columns, unpack_under, unpacking, run_limit, read_on, run_meaning, first_half, unpadded_number, run_number};
+ghost use Rattle.codec.specs.Unpacking.{breaks_rules, parts_number, unpack_column, unpack_columns, unpack_under, unpacking, run_limit, read_on, run_meaning, first_half, unpadded_number, run_number};
 
 use crate::columns::{column_size, half_count, hash_count, sign_count, signed_exponent};
 use crate::contents::{body_size, check_images, read_alone};
 use crate::halves::{high_half, low_half};
 use crate::lists::Numbers;
-use crate::worths::{NO_WORTH, WORTHS};
+use crate::worths::worth;
 use decimal::{EXPONENT_LIMIT, Image, Number, Reason, Refusal, power_of_ten};
 
 // The value of start with the digits of the bytes behind it, two for each byte; none where a half is above 9.
-fn read_pairs(bytes: &[u8], start: u64, worths: &[u8; 256]) -> Option<u64>
-    requires { (length bytes.now ≤ 9) × (start < 10) × IsWorths worths.now }
+fn read_pairs(bytes: &[u8], start: u64) -> Option<u64>
+    requires { (length bytes.now ≤ 9) × (start < 10) }
     ensures { run_meaning result ≡ read_on start (halves_of bytes.now) }
 {
     let mut value = start;
     for byte in bytes {
-        let two = worths[*byte as usize];
-        let is_bad = two == NO_WORTH;
-        if is_bad {
-            return None;
-        }
-        value = value * 100 + two as u64;
+        value = value * 100 + worth(*byte)? as u64;
     }
     Some(value)
 }
 
-// All halves of a column behind its sign half as one whole number; Bad where one is above 9.
-fn read_run(bytes: &[u8], signs: usize, worths: &[u8; 256]) -> Option<u64>
-    requires { (0 < length bytes.now) × (length bytes.now ≤ 9) × (signs ≤ 1) × IsWorths worths.now }
+// All halves of a column behind its sign half as one whole number; none where one is above 9.
+fn read_run(bytes: &[u8], signs: usize) -> Option<u64>
+    requires { (0 < length bytes.now) × (length bytes.now ≤ 9) × (signs ≤ 1) }
     ensures { run_meaning result ≡ read_on 0 (drop signs (halves_of bytes.now)) }
 {
     if signs == 0 {
-        return read_pairs(bytes, 0, worths);
+        return read_pairs(bytes, 0);
     }
     let first = low_half(bytes[0]);
     if 9 < first {
         return None;
     }
-    read_pairs(&bytes[1..], first as u64, worths)
+    read_pairs(&bytes[1..], first as u64)
 }
 
 // The sign half of a column, 0 where it has none.
@@ -57,113 +51,108 @@ fn column_sign(bytes: &[u8], signs: usize) -> u8
     if signs == 0 { 0 } else { high_half(bytes[0]) }
 }
 
-// Whether the digits of an exponential column, as a whole number that is not 0, begin with 0.
-fn begins_with_zero(image: Image, whole: u64) -> bool
-    requires { (hashes image ≤ precision) × (whole < run_limit) }
-    ensures { result ≡ ltb (whole * 10) (10 ^ hashes image) }
-{
-    whole * 10 < power_of_ten(hash_count(image))
-}
-
-// Whether a sign half, the digits as a whole number, and |x| break a rule under an image.
-fn breaks_rules(image: Image, sign: u8, whole: u64, size: usize) -> bool
-    requires { (hashes image ≤ precision) × (whole < run_limit) }
-    ensures { result ≡ breaks_rules image sign whole size }
-{
-    if 2 <= sign & 7 {
-        return true;
-    }
-    if whole == 0 {
-        if sign & 7 == 1 {
-            return true;
-        }
-        if 8 <= sign {
-            return true;
-        }
-        return 1 <= size;
-    }
-    if 8 <= sign {
-        if size == 0 {
-            return true;
-        }
-    }
-    if image.exponential {
-        return begins_with_zero(image, whole);
-    }
-    false
-}
-
-// The number that a sign half, the digits as a whole number, and |x| stand for; refused with 7 where they break a rule.
-fn parts_number(
+// A column as it is read: its image, its sign half, its digits as one whole number, and its place for a refusal.
+#[derive(Clone, Copy)]
+struct ColumnParts {
     image: Image,
     sign: u8,
     whole: u64,
-    size: usize,
     column: usize,
-) -> Result<Number, Refusal>
-    requires { (hashes image ≤ precision) × (whole < run_limit) × (size ≤ exponent_limit) }
-    ensures { meaning result ≡ parts_number column image sign whole size }
-{
-    let bad = Refusal {
-        reason: Reason::BadHalf,
-        place: column,
-    };
-    if breaks_rules(image, sign, whole, size) {
-        return Err(bad);
-    }
-    let up = signed_exponent(8 <= sign, size) as u16;
-    let down = (EXPONENT_LIMIT + image.fraction as usize) as u16;
-    Number::from_scaled(sign & 7 == 1, whole, up, down, column).or(Err(bad))
+    ghost fits: { hashes image ≤ precision },
+    ghost small: { whole < run_limit },
 }
 
-// The number of a sign half and of the digits behind it with no padding.
-fn unpadded_number(image: Image, sign: u8, value: u64, column: usize) -> Result<Number, Refusal>
-    requires { (hashes image ≤ precision) × (value < run_limit) }
-    ensures { meaning result ≡ unpadded_number column image sign value }
-{
-    if image.exponential {
-        return parts_number(image, sign, value / 100, (value % 100) as usize, column);
+impl ColumnParts {
+    // Whether the digits of an exponential column, not all 0, begin with 0.
+    #[tactic(auto, using(decimal::proofs::PowerLaws::power_small))]
+    fn begins_with_zero(&self) -> bool
+        ensures { result ≡ ltb (self.now.whole * 10) (10 ^ hashes self.now.image) }
+    {
+        self.whole * 10 < power_of_ten(hash_count(self.image))
     }
-    parts_number(image, sign, value, 0, column)
-}
 
-// The number of a sign half and of all the digits behind it; refused with 7 if there is a pad that is not 0.
-fn run_number(image: Image, sign: u8, value: u64, column: usize) -> Result<Number, Refusal>
-    requires { (hashes image ≤ precision) × (value < run_limit) }
-    ensures { meaning result ≡ run_number column image sign value }
-{
-    if half_count(image) % 2 == 0 {
-        return unpadded_number(image, sign, value, column);
+    // Whether the parts and |x| break a rule.
+    #[tactic(auto, unfolding(crate::specs::Unpacking::breaks_rules))]
+    fn breaks_rules(&self, size: usize) -> bool
+        ensures { result ≡ breaks_rules self.now.image self.now.sign self.now.whole size }
+    {
+        2 <= self.sign & 7
+            || self.sign & 7 == 1 && self.whole == 0
+            || 8 <= self.sign && size == 0
+            || self.whole == 0 && 1 <= size
+            || self.image.exponential && 1 <= self.whole && self.begins_with_zero()
     }
-    if value % 10 == 0 {
-        return unpadded_number(image, sign, value / 10, column);
+
+    // The number, where the digits are those before |x|; refused with 7 where the parts and |x| break a rule.
+    #[tactic(auto, unfolding(crate::specs::Unpacking::parts_number, crate::specs::Unpacking::as_half, decimal::specs::Truncation::number_of, crate::specs::Unpacking::said_by))]
+    fn number(&self, size: usize) -> Result<Number, Refusal>
+        requires { size ≤ exponent_limit }
+        ensures { meaning result ≡ parts_number self.now.column self.now.image self.now.sign self.now.whole size }
+    {
+        let bad = Refusal {
+            reason: Reason::BadHalf,
+            place: self.column,
+        };
+        if self.breaks_rules(size) {
+            return Err(bad);
+        }
+        let up = signed_exponent(8 <= self.sign, size) as u16;
+        let down = (EXPONENT_LIMIT + self.image.fraction as usize) as u16;
+        Number::from_scaled(self.sign & 7 == 1, self.whole, up, down, self.column).or(Err(bad))
     }
-    Err(Refusal {
-        reason: Reason::BadHalf,
-        place: column,
-    })
+
+    // The number, where the digits are those before the padding.
+    #[tactic(auto, unfolding(crate::specs::Unpacking::unpadded_number))]
+    fn unpadded_number(mut self) -> Result<Number, Refusal>
+        ensures { meaning result ≡ unpadded_number self.column self.image self.sign self.whole }
+    {
+        if self.image.exponential {
+            let size = (self.whole % 100) as usize;
+            self.whole /= 100;
+            return self.number(size);
+        }
+        self.number(0)
+    }
+
+    // The number, where the digits are all, those of the padding too; refused with 7 if there is a pad that is not 0.
+    #[tactic(auto, unfolding(crate::specs::Unpacking::run_number))]
+    fn run_number(mut self) -> Result<Number, Refusal>
+        ensures { meaning result ≡ run_number self.column self.image self.sign self.whole }
+    {
+        if half_count(self.image) % 2 == 0 {
+            return self.unpadded_number();
+        }
+        if self.whole % 10 != 0 {
+            return Err(Refusal {
+                reason: Reason::BadHalf,
+                place: self.column,
+            });
+        }
+        self.whole /= 10;
+        self.unpadded_number()
+    }
 }
 
 // The number of a column's bytes; refused with 7 and the column.
-fn unpack_column(
-    image: Image,
-    bytes: &[u8],
-    column: usize,
-    worths: &[u8; 256],
-) -> Result<Number, Refusal>
-    requires { Checked image × (length bytes.now ≡ column_size image) × IsWorths worths.now }
+fn unpack_column(image: Image, bytes: &[u8], column: usize) -> Result<Number, Refusal>
+    requires { Checked image × (length bytes.now ≡ column_size image) }
     ensures { meaning result ≡ unpack_column column image bytes.now }
 {
-    let sign = image.sign;
-    let signs = sign_count(sign);
-    let Some(value) = read_run(bytes, signs, worths) else {
+    let signs = sign_count(image.sign);
+    let Some(whole) = read_run(bytes, signs) else {
         return Err(Refusal {
             reason: Reason::BadHalf,
             place: column,
         });
     };
-    let half = column_sign(bytes, signs);
-    run_number(image, half, value, column)
+    let sign = column_sign(bytes, signs);
+    let parts = ColumnParts {
+        image,
+        sign,
+        whole,
+        column,
+    };
+    parts.run_number()
 }
 
 // The numbers of the columns of a body; refused from the left with 7 and the column.
@@ -171,12 +160,11 @@ fn unpack_columns(images: &[Image], body: &[u8]) -> Result<Numbers, Refusal>
     requires { (length images.now ≤ max_columns) × AllChecked images.now × (length body.now ≡ body_size images.now) }
     ensures { mapped items_of (meaning result) ≡ unpack_columns 0 images.now body.now }
 {
-    let worths = WORTHS;
     let mut numbers = Numbers::new();
     let mut at = 0;
     for (column, image) in images.iter().enumerate() {
         let end = at + column_size(*image);
-        numbers.push(unpack_column(*image, &body[at..end], column, &worths)?);
+        numbers.push(unpack_column(*image, &body[at..end], column)?);
         at = end;
     }
     Ok(numbers)

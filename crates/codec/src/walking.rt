@@ -23,12 +23,15 @@ pub enum Stop {
 }
 
 // The text numbers that were read in order, and where and why reading stopped: a refused number's refusal, or another reason.
-#[derive(Drop)]
+// The list stands beside the answer and not in it, since the numbers before a refused one are given too.
+#[derive(Clone, Debug, PartialEq, Eq, Hash, Drop)]
 pub struct Walked {
     pub answer: Result<Stop, Refusal>,
     pub numbers: Numbers,
     pub place: usize,
 }
+
+// A place may lie past the text's end, where no rest can be lent; so the functions below take the whole text and a place.
 
 // The longest beginning from a place on that is a text number, and its number; 8 with no byte used where there is none, as at the end.
 fn read_at(text: &[u8], place: usize) -> Reading
@@ -42,6 +45,7 @@ fn read_at(text: &[u8], place: usize) -> Reading
 
 // The next place, from one on, where a text number begins; the text's end where there is none, a place past the end as it is.
 // A text number begins at blanks exactly where one begins behind them, so each run of blanks is read once.
+// The loop goes by places, of which one is the answer; the steps have different lengths.
 pub fn next_number_place(text: &[u8], from: usize) -> usize
     ensures { result ≡ number_place text.now from }
 {
@@ -76,6 +80,7 @@ fn why_stopped(text: &[u8], place: usize, used: usize) -> Stop
 }
 
 // All text numbers of a text from a place on, in order, up to COLUMNS. A number refused with 5 has its index for its place.
+// The loop goes by places, of which the last is part of the answer, and may lie past the end.
 pub fn read_text_numbers(text: &[u8], from: usize) -> Walked
     ensures { walk_of result ≡ walking text.now from }
 {

@@ -1,10 +1,13 @@
 // The worth of each value of a packed byte.
+ghost use Rattle.std.specs.Prelude.{◌≡◌, [], ◌∷◌};
+ghost use Rattle.codec.specs.Halves.{halves_of};
+ghost use Rattle.codec.specs.Unpacking.{read_on, run_meaning};
 
-// The worth of a byte that has a half above 9.
-pub(crate) const NO_WORTH: u8 = 255;
+// What the table has for a byte that has a half above 9.
+const NO_WORTH: u8 = 255;
 
 // Ten times the high half plus the low half, for each byte; NO_WORTH where a half is above 9.
-pub(crate) const WORTHS: [u8; 256] = [
+static WORTHS: [u8; 256] = [
     0, 1, 2, 3, 4, 5, 6, 7, 8, 9, 255, 255, 255, 255, 255, 255, 10, 11, 12, 13, 14, 15, 16, 17, 18,
     19, 255, 255, 255, 255, 255, 255, 20, 21, 22, 23, 24, 25, 26, 27, 28, 29, 255, 255, 255, 255,
     255, 255, 30, 31, 32, 33, 34, 35, 36, 37, 38, 39, 255, 255, 255, 255, 255, 255, 40, 41, 42, 43,
@@ -19,3 +22,11 @@ pub(crate) const WORTHS: [u8; 256] = [
     255, 255, 255, 255, 255, 255, 255, 255, 255, 255, 255, 255, 255, 255, 255, 255, 255, 255, 255,
     255, 255, 255, 255, 255, 255,
 ];
+
+// Ten times the high half of a packed byte plus its low half; none where a half is above 9.
+pub(crate) fn worth(byte: u8) -> Option<u8>
+    ensures { run_meaning result ≡ read_on 0 (halves_of (byte ∷ [])) }
+{
+    let two = WORTHS[byte as usize];
+    (two != NO_WORTH).then_some(two)
+}

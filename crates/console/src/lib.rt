@@ -9,7 +9,7 @@ use std::io;
 use std::io::Read;
 
 // Reads until the reader ends or the buffer is full, and gives how many bytes stand at the buffer's start; else the error of the read that
-// failed.
+// failed. The loop goes by the count, since how many bytes a read gives is known only behind it.
 pub fn read_from<R: Read>(reader: &mut R, buffer: &mut [u8]) -> io::Result<usize>
     ensures within { Within result buffer.new }
     ensures bytes { Reads (R.remaining reader.old) (R.remaining reader.new) result buffer.new }

@@ -18,6 +18,7 @@ pub fn compare(first: Number, second: Number) -> Result<Ordering, Refusal>
 }
 
 // The order of two numbers in normal form: the signs decide where they differ, else the magnitudes.
+// The form stands in the contract and not in a type: anyone can fill a Number in, and compare takes any.
 fn value_order(first: Number, second: Number) -> Ordering
     requires { (normal first ≡ true) × (normal second ≡ true) }
     ensures { result ≡ value_order first second }

@@ -65,10 +65,8 @@ pub(crate) fn packed_digits(mantissa: u64, count: usize) -> u64
 {
     let mut packed: u64 = 0;
     let mut rest = mantissa;
-    let mut done = 0;
-    while done < count {
-        done += 1;
-        let left = PRECISION - done;
+    for done in 0..count {
+        let left = PRECISION - (done + 1);
         let taken = take_digit(rest, power_of_ten(left));
         packed = (packed << 4) | taken.digit;
         rest = taken.rest;

@@ -43,7 +43,7 @@ pub struct Image {
 }
 
 // What was read of a field, from its first byte.
-#[derive(Clone, Copy)]
+#[derive(Clone, Copy, Debug, PartialEq, Eq, Hash)]
 pub enum State {
     // Nothing.
     Start,

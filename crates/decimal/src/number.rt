@@ -44,6 +44,7 @@ pub struct Number {
     pub exponent: usize,
 }
 
+// By hand, since a derived exponent of 0 stands for e = -99, and zero has another.
 impl Default for Number {
     ghost is_default = { λ n. n ≡ zero_number };
 

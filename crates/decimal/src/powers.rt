@@ -2,7 +2,7 @@
 ghost use Rattle.std.specs.Prelude.{◌≡◌};
 ghost use Rattle.decimal.specs.Digits.{power_of_ten};
 
-// Ten to the power of an exponent below 20; 0 for a larger exponent.
+// Ten to the power of an exponent below 20; 0 for a larger exponent, so that it takes any and its callers, which ask below 20, test nothing.
 pub fn power_of_ten(exponent: usize) -> u64
     ensures { result ≡ power_of_ten exponent }
 {

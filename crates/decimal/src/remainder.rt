@@ -1,15 +1,12 @@
 // What truncation cuts off a number (document 02, (ii)).
-ghost use Rattle.std.specs.Prelude.{◌≡◌, ◌-◌, ◌%◌, ◌^◌, ◌<◌, ◌≤◌};
+ghost use Rattle.std.specs.Prelude.{◌≡◌, ◌%◌, ◌<◌};
 ghost use Rattle.decimal.specs.Answer.{meaning};
-ghost use Rattle.decimal.specs.Digits.{precision};
 ghost use Rattle.decimal.specs.Remainder.{remainder, zero_remainder};
 
-use crate::digits::PRECISION;
 use crate::image::Image;
 use crate::number::{Number, SCALE};
-use crate::powers::power_of_ten;
 use crate::refusal::Refusal;
-use crate::truncation::{fit, kept_count};
+use crate::truncation::{Fitting, fit};
 
 // The exact remainder of a number under an image: truncated magnitude plus r * 10^power is the magnitude. The field whole holds document
 // 02's r, which is below 10^PRECISION; the field power holds power + SCALE, where power is e - (PRECISION - 1).
@@ -27,6 +24,7 @@ impl Remainder {
     };
 }
 
+// By hand, since a derived power of 0 is not that of zero.
 impl Default for Remainder {
     ghost is_default = { λ r. r ≡ zero_remainder };
 
@@ -44,26 +42,14 @@ fn part_below(mantissa: u64, unit: u64) -> u64
     mantissa % unit
 }
 
-// The last digits of a mantissa, all but its first count, as a whole number.
-fn last_digits(mantissa: u64, count: usize) -> u64
-    requires { count ≤ precision }
-    ensures { result ≡ mantissa % 10 ^ (precision - count) }
-{
-    part_below(mantissa, power_of_ten(PRECISION - count))
-}
-
 // What truncation under an image cuts off a number: r and its power, which is 0 for the number zero alone; refused as fit is.
 pub fn remainder_of(image: Image, number: Number, place: usize) -> Result<Remainder, Refusal>
     ensures { meaning result ≡ remainder place image number }
 {
     fit(image, number, place)?;
-    let count = kept_count(image, number);
-    let mantissa = number.mantissa;
-    let whole = last_digits(mantissa, count);
-    let power = if mantissa == 0 {
-        SCALE
-    } else {
-        number.exponent
-    };
+    let fitting = Fitting { image, number };
+    let whole = part_below(number.mantissa, fitting.unit());
+    let is_zero = number.mantissa == 0;
+    let power = if is_zero { SCALE } else { number.exponent };
     Ok(Remainder { whole, power })
 }

@@ -1,5 +1,5 @@
 // Truncation of a number under an image (document 01: Images, second paragraph).
-ghost use Rattle.std.specs.Prelude.{◌≡◌, ◌+◌, ◌-◌, ◌*◌, ◌/◌, ◌^◌, ◌<◌, ◌≤◌, true, not, ◌&&◌, ◌==◌, OnOk};
+ghost use Rattle.std.specs.Prelude.{◌≡◌, ◌+◌, ◌-◌, ◌*◌, ◌/◌, ◌^◌, ◌<◌, ◌≤◌, true, OnOk};
 ghost use Rattle.decimal.specs.Answer.{meaning, mapped, checked_only};
 ghost use Rattle.decimal.specs.Digits.{precision, digits_of, packed_of};
 ghost use Rattle.decimal.specs.Number.{exponent_limit, normal};
@@ -9,6 +9,9 @@ ghost use Rattle.decimal.specs.Truncation.{
   exponent_outside,
   stored_exponent,
   kept_count,
+  kept_number,
+  dropped_count,
+  whole_of,
   Fit,
   limited,
   truncation,
@@ -54,6 +57,8 @@ fn integer_digits(exponent: usize) -> usize
     }
     exponent - EXPONENT_LIMIT + 1
 }
+
+// What is known of a number or an image alone stands in the contracts and not in a type: anyone can fill one in, and every call takes any.
 
 // Whether a number exceeds a fixed-point image.
 fn exceeds(image: Image, number: Number) -> bool
@@ -121,7 +126,8 @@ pub fn fit_packed(image: Image, number: Number, place: usize) -> Result<(), Refu
     ensures answer { meaning result ≡ checked_only (packed_truncation place image number) }
 {
     fit(image, number, place)?;
-    let below = stored_exponent(image, number) < EXPONENT_LIMIT;
+    let fitting = Fitting { image, number };
+    let below = fitting.stored_exponent() < EXPONENT_LIMIT;
     if below && !is_signed(image.sign) {
         return Err(Refusal {
             reason: Reason::ExponentOutside,
@@ -138,52 +144,79 @@ fn is_signed(sign: Sign) -> bool
     matches!(sign, Sign::Plus | Sign::Minus)
 }
 
-// The stored exponent x of a number that fits an image, plus EXPONENT_LIMIT; x is 0 in fixed point and for zero.
-fn stored_exponent(image: Image, number: Number) -> usize
-    requires { Fit image number }
-    ensures { result ≡ stored_exponent image number }
-{
-    if number.mantissa == 0 {
-        return EXPONENT_LIMIT;
-    }
-    if image.exponential {
-        return number.exponent + 1 - image.integer as usize;
-    }
-    EXPONENT_LIMIT
+// An image and a number that fits it: the image can truncate it.
+#[derive(Clone, Copy)]
+pub(crate) struct Fitting {
+    pub(crate) image: Image,
+    pub(crate) number: Number,
+    ghost fits: { Fit image number },
 }
 
-// The count of the mantissa's first digits that an image keeps of a number that fits it.
-pub(crate) fn kept_count(image: Image, number: Number) -> usize
-    requires { Fit image number }
-    ensures { result ≡ kept_count image number }
-{
-    if number.mantissa == 0 {
-        return 0;
+impl Fitting {
+    // The stored exponent x, plus EXPONENT_LIMIT; x is 0 in fixed point and for zero.
+    #[tactic(auto, using(crate::proofs::NumberLaws::normal_top), unfolding(crate::specs::Truncation::stored_exponent))]
+    fn stored_exponent(&self) -> usize
+        ensures { result ≡ stored_exponent self.now.image self.now.number }
+    {
+        if self.number.mantissa == 0 {
+            return EXPONENT_LIMIT;
+        }
+        if self.image.exponential {
+            return self.number.exponent + 1 - self.image.integer as usize;
+        }
+        EXPONENT_LIMIT
     }
-    if image.exponential {
-        return image.integer as usize + image.fraction as usize;
-    }
-    let end = number.exponent + image.fraction as usize + 1;
-    if end < EXPONENT_LIMIT {
-        return 0;
-    }
-    end - EXPONENT_LIMIT
-}
 
-// Whether a truncation is negative: the image has a sign, the number is below zero, and some digit is kept.
-fn keeps_minus(image: Image, number: Number, count: usize) -> bool
-    ensures { result ≡ (is_signed image.sign && (number.negative && not (count == 0))) }
-{
-    let keeps_digit = 0 < count;
-    is_signed(image.sign) && keeps_digit && number.negative
-}
+    // The count of the mantissa's first digits that the image keeps.
+    #[tactic(auto, using(crate::proofs::NumberLaws::normal_top), unfolding(crate::specs::Truncation::kept_count))]
+    fn kept_count(&self) -> usize
+        ensures { result ≡ kept_count self.now.image self.now.number }
+    {
+        if self.number.mantissa == 0 {
+            return 0;
+        }
+        if self.image.exponential {
+            return self.image.integer as usize + self.image.fraction as usize;
+        }
+        let end = self.number.exponent + self.image.fraction as usize + 1;
+        if end < EXPONENT_LIMIT {
+            return 0;
+        }
+        end - EXPONENT_LIMIT
+    }
 
-// The first count digits of a mantissa as the last half bytes of a number; zeros before them.
-fn kept_halves(mantissa: u64, count: usize) -> u64
-    requires { (mantissa < 10 ^ precision) × (count ≤ precision) }
-    ensures { result ≡ packed_of (digits_of precision (mantissa / 10 ^ (precision - count))) }
-{
-    packed_digits(mantissa, count)
+    // Whether the truncation is negative: the image has a sign, the number is below zero, and some digit is kept.
+    #[tactic(auto, unfolding(crate::specs::Truncation::kept_number))]
+    fn keeps_minus(&self) -> bool
+        ensures { result ≡ (kept_number self.now.image self.now.number).negative }
+    {
+        let keeps_digit = 0 < self.kept_count();
+        is_signed(self.image.sign) && keeps_digit && self.number.negative
+    }
+
+    // The digits kept as the last half bytes of a number; zeros before them.
+    fn kept_halves(&self) -> u64
+        ensures { result ≡ packed_of (digits_of precision (whole_of self.now.image self.now.number)) }
+    {
+        packed_digits(self.number.mantissa, self.kept_count())
+    }
+
+    // The worth of the last digit kept, counted in the mantissa's last digit.
+    #[tactic(auto, using(crate::proofs::PowerLaws::power_left, crate::proofs::KeptLaws::kept_size))]
+    pub(crate) fn unit(&self) -> u64
+        ensures { result ≡ 10 ^ dropped_count self.now.image self.now.number }
+    {
+        power_of_ten(PRECISION - self.kept_count())
+    }
+
+    // The mantissa with zeros for the digits that are not kept.
+    #[tactic(auto, unfolding(crate::specs::Truncation::kept_number))]
+    fn cut_mantissa(&self) -> u64
+        ensures { result ≡ (kept_number self.now.image self.now.number).mantissa }
+    {
+        let unit = self.unit();
+        whole_part(self.number.mantissa, unit) * unit
+    }
 }
 
 // A number truncated under an image: the sign and the digits kept and the stored exponent; refused as fit is.
@@ -191,11 +224,11 @@ pub fn truncate(image: Image, number: Number, place: usize) -> Result<Truncation
     ensures { meaning result ≡ mapped truncation_of (truncation place image number) }
 {
     fit(image, number, place)?;
-    let count = kept_count(image, number);
+    let fitting = Fitting { image, number };
     Ok(Truncation {
-        negative: keeps_minus(image, number, count),
-        halves: kept_halves(number.mantissa, count),
-        x: stored_exponent(image, number),
+        negative: fitting.keeps_minus(),
+        halves: fitting.kept_halves(),
+        x: fitting.stored_exponent(),
     })
 }
 
@@ -207,27 +240,18 @@ fn whole_part(mantissa: u64, unit: u64) -> u64
     mantissa / unit
 }
 
-// A mantissa with all but its first count digits zero.
-fn cut_mantissa(mantissa: u64, count: usize) -> u64
-    requires { (mantissa < 10 ^ precision) × (count ≤ precision) }
-    ensures { result ≡ mantissa / 10 ^ (precision - count) * 10 ^ (precision - count) }
-{
-    let unit = power_of_ten(PRECISION - count);
-    whole_part(mantissa, unit) * unit
-}
-
 // A number's truncation under an image as a number; refused as fit is.
 pub fn truncated(image: Image, number: Number, place: usize) -> Result<Number, Refusal>
     ensures { meaning result ≡ truncated_number place image number }
 {
     fit(image, number, place)?;
-    let count = kept_count(image, number);
-    if count == 0 {
+    let fitting = Fitting { image, number };
+    if fitting.kept_count() == 0 {
         return Ok(Number::ZERO);
     }
     Ok(Number {
-        negative: keeps_minus(image, number, count),
-        mantissa: cut_mantissa(number.mantissa, count),
+        negative: fitting.keeps_minus(),
+        mantissa: fitting.cut_mantissa(),
         exponent: number.exponent,
     })
 }

@@ -16,7 +16,7 @@ use Rattle.decimal.specs.declared.image.Image.{Image}
 use Rattle.records.proofs.FileLaws.{FileRead, file_told}
 
 -- so many bodies are as many
-bodies_count : (n size : ℕ) (bytes : List ℕ) → length (bodies n size bytes) ≡ n
+pub bodies_count : (n size : ℕ) (bytes : List ℕ) → length (bodies n size bytes) ≡ n
 unfolding bodies
 bodies_count zero size bytes = refl
 bodies_count (suc n) size bytes = ap suc (bodies_count n size (drop size bytes))

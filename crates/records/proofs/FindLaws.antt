@@ -284,9 +284,9 @@ module _ {line : List ℕ} {fields : List Field} {count place : ℕ} (r : Findin
       (finding_over size r s.0, omega (arith, s.1, length-drop place line, r.inside))
 
   -- where none can, all is found
-  pub finding_ends : position begins_field (take (length line - place) (drop place line)) ≡ None
+  pub found_listed : position begins_field (take (length line - place) (drop place line)) ≡ None
       → (check_fields 0 0 line ≡ done tt) × Listed line fields
-  finding_ends e =
+  found_listed e =
       let size : ℕ = length (drop place line) in
       let end = finding_over size r (skipped_all (drop place line) (rw (take_rest line place) at e)) in
       let over : length line ≤ place + size = omega (arith, length-drop place line) in
@@ -312,8 +312,8 @@ module _ {line : List ℕ} {fields : List Field} {count place : ℕ} (r : Findin
 
     module _ (some : scanned.length ≡ 0 → ⊥) where
       -- a field is refused for its # signs
-      pub finding_refused : precision < scanned.integer + scanned.fraction → check_fields 0 0 line ≡ refused 2 count
-      finding_refused h =
+      pub found_refused : precision < scanned.integer + scanned.fraction → check_fields 0 0 line ≡ refused 2 count
+      found_refused h =
           finding_many r (λ z. some (scanned_length (drop place line) scanned_there ∙ z))
           (omega (arith, scanned_hashes (drop place line) scanned_there))
 

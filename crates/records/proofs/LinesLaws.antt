@@ -19,7 +19,7 @@ use Rattle.records.specs.Listing.{columns_word, records_word, count_line, record
 use Rattle.records.proofs.FileLaws.{file_told}
 use Rattle.records.proofs.WritingLaws.{part_behind, behind_all, lent_written, Coming, coming_starts, coming_room, coming_bytes, coming_ends}
 use borrow.Rule.Slice.PartMut.{put_mid}
-use Rattle.records.proofs.BodiesLaws.{file_reaches, Ahead, bodies_ahead, bodies_next, bodies_over}
+use Rattle.records.proofs.BodiesLaws.{file_reaches, Ahead, bodies_ahead, bodies_next, bodies_over, bodies_count}
 use Rattle.records.proofs.RecordLaws.{line_length_lem}
 
 -- The lines of records, one body after the other.
@@ -101,17 +101,6 @@ lines_length ims s (b ∷ bs) {lines} h =
       step_length ims s v,
       lines_length ims s bs v.rest,
     )
-
--- so many bodies are so many
-bodies_count : (n size : ℕ) (bytes : List ℕ) → length (bodies n size bytes) ≡ n
-unfolding bodies
-bodies_count zero size bytes = refl
-bodies_count (suc n) size bytes = ap suc (bodies_count n size (drop size bytes))
-
--- a file has a body for each record
-pub records_count : (table : Table) (file : List ℕ) → length (bodies_in table file) ≡ record_count table file
-unfolding bodies_in
-records_count table file = bodies_count (record_count table file) (body_size table.images) (drop table.size file)
 
 -- A file whose bodies can all be read, by the contents that the code has of it.
 

@@ -26,6 +26,7 @@ pub enum Element {
     Text(usize, usize),
 }
 
+// By hand, since no derive gives a variant with a value.
 impl Default for Element {
     ghost is_default = { λ e. e ≡ Number zero_number };
 
@@ -41,6 +42,9 @@ pub(crate) struct Fill {
     pub shown: bool,
     pub used: usize,
 }
+
+// What is known of a field, its image and a truncation stands in the contracts and not in a type: a field is a part of the lent line, and
+// the other two are the plain structs of the layers below.
 
 // The next digit of a number that fills a field.
 fn next_digit(image: Image, truncation: Truncation, fill: Fill) -> u8

@@ -55,6 +55,7 @@ fn field_at(bytes: &[u8], at: usize, scanned: Scanned) -> Field
 }
 
 // The first FIELDS fields of a line; refused with 2 and the field where one of all has more than PRECISION # signs.
+// The loop goes by places, since each field has one; the steps have different lengths.
 pub(crate) fn find_fields(line: &[u8]) -> Result<ArrayVec<Field, FIELDS>, Refusal>
     requires { length line.now ≤ max_line }
     ensures listed { IfOk result (λ fields. Listed line.now fields.items) }

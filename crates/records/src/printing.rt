@@ -90,7 +90,8 @@ fn check_line(
         return Err(Refusal::WRONG_COUNT);
     }
     let fields = find_fields(line)?;
-    if fields.is_empty() && !elements.is_empty() {
+    let has_elements = 0 < elements.len();
+    if fields.is_empty() && has_elements {
         return Err(Refusal {
             reason: Reason::NoField,
             place: 0,
@@ -101,6 +102,7 @@ fn check_line(
 }
 
 // The bytes and the spilled count that a line prints, for a line that has a field or no elements.
+// The outer loop goes over lines and is left from inside when the elements run out: document 01's form.
 fn measure(line: &[u8], fields: &[Field], elements: &[Element]) -> Printed
     requires { (LineReady line.now elements.now) × (Listed line.now fields.now) }
     ensures { (texts : List ℕ) → (result.bytes ≡ length (print_from texts line.now line.now elements.now).bytes) × (result.spilled ≡ (print_from texts line.now line.now elements.now).spilled) }
@@ -132,6 +134,7 @@ fn measure(line: &[u8], fields: &[Field], elements: &[Element]) -> Printed
 }
 
 // Writes what a line prints, from the buffer's start on, for a line that has a field or no elements.
+// Its loops are those of measure.
 fn write_lines(line: &[u8], fields: &[Field], elements: &[Element], texts: &[u8], buffer: &mut [u8])
     requires { (PrintReady line.now elements.now texts.now (length buffer.old)) × (Listed line.now fields.now) }
     ensures { buffer.new ≡ written buffer.old 0 (print_from texts.now line.now line.now elements.now).bytes }

@@ -27,6 +27,7 @@ fn is_stopped(state: State) -> bool
 }
 
 // The field that bytes begin with: its length, the # signs before and behind the point, and whether it is exponential.
+// Length 0 says that there is none, since document 01's scanner gives the length.
 #[derive(Clone, Copy)]
 pub(crate) struct Scanned {
     pub length: usize,
@@ -64,6 +65,7 @@ pub(crate) fn scan_field(bytes: &[u8]) -> Scanned
 }
 
 // The length of the field that starts at a place of a line; 0 if the byte there is literal or the place is past the end.
+// It takes the line and a place, as no rest can be lent past the end.
 pub fn scan(line: &[u8], at: usize) -> usize
     ensures { result ≡ field_length (drop at line.now) }
 {

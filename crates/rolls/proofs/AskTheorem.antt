@@ -4,6 +4,9 @@ use Prim.Native.Nat.{ℕ, zero, suc, ◌<◌}
 use mathlib.Core.Path.{◌≡◌, refl, ap, sym, subst, ◌∙◌}
 use mathlib.Core.Bool.{Bool, true, false}
 use mathlib.Core.List.{List, [], ◌∷◌}
+use Rattle.std.proofs.Common.{Result, Ok, Err}
+use Rattle.decimal.specs.declared.refusal.Refusal.{Refusal}
+use Rattle.rolls.specs.declared.searching.Found.{Found}
 use mathlib.Core.Logic.{◌↔◌}
 use native.Mathlib.Omega.{arith}
 use lib.Dec.{leb}
@@ -13,7 +16,7 @@ use Rattle.decimal.specs.declared.image.Sign.{Sign}
 use Rattle.decimal.specs.declared.image.Sign.TheVariants.{Unsigned, Plus, Minus}
 use Rattle.decimal.specs.declared.image.Image.{Image}
 use Rattle.decimal.specs.declared.number.Number.{Number}
-use Rattle.decimal.specs.Answer.{Answer, done, refused, ◌then◌, pick}
+use Rattle.decimal.specs.Answer.{Answer, done, refused, ◌then◌, pick, mapped, meaning}
 use Rattle.decimal.specs.Number.{zero_number, normal}
 use Rattle.decimal.proofs.AnswerLaws.{never_done, done_same, then_done, then_last}
 use Rattle.decimal.proofs.NumberLaws.{check_normal}
@@ -25,7 +28,7 @@ use Rattle.records.specs.Files.{read_file, record_count, bodies_in, shown_part}
 use Rattle.records.proofs.FileTheorem.{record_at}
 use Rattle.records.proofs.BodiesLaws.{records_count}
 use Rattle.rolls.specs.Falling.{fall}
-use Rattle.rolls.specs.Searching.{max_positions, keys_of, keys_in, Search, found, check_count, check_numbers, is_unsigned_fixed, check_kind, check_page, searching}
+use Rattle.rolls.specs.Searching.{search_of, max_positions, keys_of, keys_in, Search, found, check_count, check_numbers, is_unsigned_fixed, check_kind, check_page, searching}
 use Rattle.rolls.specs.Finding.{Finds, HasKey, Askable}
 use Rattle.rolls.proofs.FallTheorem.{fall_exactly}
 use Rattle.rolls.proofs.FindTheorem.{finds}
@@ -153,3 +156,15 @@ search_finds file ps h =
     let a = asked file ps h in
     let ask = a.1 in
     (a.0, ask, subst (λ (s : Search). Finds ps a.0 s) (sym a.2) (finds ps a.0 ask.positions ask.in_order))
+
+-- Published: a call that finds has the list of the records found, and no place behind the last position's;
+pub found_places : (r : Result Found Refusal) {s : Search} → mapped search_of (meaning r) ≡ done s → (f : Found) × (r ≡ Ok f) × (f.records.items ≡ s.records)
+unfolding mapped
+found_places (Ok f) h = (f, refl, ap (λ (s : Search). s.records) (done_same h))
+found_places (Err e) h = never_done h
+
+-- one that is refused has none.
+pub refused_places : (r : Result Found Refusal) {number place : ℕ} → mapped search_of (meaning r) ≡ refused number place → (e : Refusal) × (r ≡ Err e)
+unfolding mapped
+refused_places (Ok f) h = never_done (sym h)
+refused_places (Err e) h = (e, refl)

@@ -27,7 +27,7 @@ use records::read_file;
 pub const POSITIONS: usize = 64;
 
 // For each position the number of a record, and the count of comparisons made.
-#[derive(Drop)]
+#[derive(Clone, Debug, PartialEq, Eq, Hash, Drop)]
 pub struct Found {
     pub records: ArrayVec<usize, POSITIONS>,
     pub comparisons: usize,

@@ -41,46 +41,50 @@ fn print_packed(out: &mut impl Write, contents: &[u8], number: Number) -> io::Re
     }
 }
 
-// Begins a row: the image of a contents with one column, and the number whole * 10^up / 10^down.
-fn print_under(
-    out: &mut impl Write,
+// Writes a row: an image, the number whole * 10^up / 10^down, and what is printed of that number, or the refusal.
+fn scaled_row<W: Write, F: Fn(&mut W, Number) -> io::Result<()>>(
+    out: &mut W,
     contents: &[u8],
     negative: bool,
     whole: u64,
     up: u16,
     down: u16,
-) -> io::Result<()> {
+    print: F,
+) -> io::Result<()>
+    requires { F.IsAlwaysCallable print }
+{
     print_image(out, contents)?;
     print_raw(out, b" ")?;
     print_signed(out, negative, whole)?;
     print_raw(out, b"E")?;
-    if up < down {
-        print_signed(out, true, (down - up) as u64)?;
-    } else {
-        print_signed(out, false, (up - down) as u64)?;
+    print_signed(out, up < down, up.abs_diff(down) as u64)?;
+    print_raw(out, b": ")?;
+    match Number::from_scaled(negative, whole, up, down, 0) {
+        Err(refusal) => print_refusal(out, refusal)?,
+        Ok(number) => print(out, number)?,
     }
-    print_raw(out, b": ")
+    print_raw(out, b"\n")
+}
+
+// Writes the alpha text of a number under the image of a contents, and its body, or the refusals.
+fn print_both(out: &mut impl Write, contents: &[u8], number: Number) -> io::Result<()> {
+    print_alpha(out, image_of(contents), number)?;
+    print_raw(out, b"; body")?;
+    print_packed(out, contents, number)
 }
 
 // Writes a row: an image, the number whole * 10^up / 10^down, its alpha text and its body, or the refusals.
-pub(crate) fn image_row(
-    out: &mut impl Write,
+pub(crate) fn image_row<W: Write>(
+    out: &mut W,
     contents: &[u8],
     negative: bool,
     whole: u64,
     up: u16,
     down: u16,
 ) -> io::Result<()> {
-    print_under(out, contents, negative, whole, up, down)?;
-    match Number::from_scaled(negative, whole, up, down, 0) {
-        Err(refusal) => print_refusal(out, refusal)?,
-        Ok(number) => {
-            print_alpha(out, image_of(contents), number)?;
-            print_raw(out, b"; body")?;
-            print_packed(out, contents, number)?;
-        }
-    }
-    print_raw(out, b"\n")
+    scaled_row(out, contents, negative, whole, up, down, |out, number| {
+        print_both(out, contents, number)
+    })
 }
 
 // Writes what is cut off the only number of a list.
@@ -109,20 +113,17 @@ fn print_cut(out: &mut impl Write, contents: &[u8], number: Number) -> io::Resul
 }
 
 // Writes a row: an image, the number whole * 10^up / 10^down, its body and what is cut off, or the refusal.
-pub(crate) fn cut_row(
-    out: &mut impl Write,
+pub(crate) fn cut_row<W: Write>(
+    out: &mut W,
     contents: &[u8],
     negative: bool,
     whole: u64,
     up: u16,
     down: u16,
 ) -> io::Result<()> {
-    print_under(out, contents, negative, whole, up, down)?;
-    match Number::from_scaled(negative, whole, up, down, 0) {
-        Err(refusal) => print_refusal(out, refusal)?,
-        Ok(number) => print_cut(out, contents, number)?,
-    }
-    print_raw(out, b"\n")
+    scaled_row(out, contents, negative, whole, up, down, |out, number| {
+        print_cut(out, contents, number)
+    })
 }
 
 // Writes a row: an image and the size of its column, or the refusal.

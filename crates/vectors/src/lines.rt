@@ -26,6 +26,7 @@ fn element_of(bytes: &[u8], start: usize) -> Element {
 }
 
 // The elements of a list, which are parted by semicolons; past ELEMENTS the list is not read.
+// The loop goes by places, since a text element is told by its place.
 fn elements_of(list: &[u8]) -> ArrayVec<Element, ELEMENTS> {
     let mut elements = ArrayVec::new();
     let mut start = 0;
@@ -67,7 +68,7 @@ fn print_field(out: &mut impl Write, field: &[u8]) -> io::Result<()> {
     print_quoted(out, field)
 }
 
-// Writes the fields of a line.
+// Writes the fields of a line. The loop goes by places, which scan takes.
 fn print_fields(out: &mut impl Write, line: &[u8]) -> io::Result<()> {
     let mut at = 0;
     while at < line.len() {

@@ -1,5 +1,5 @@
-// Prints the rows of document 01's Known values, of document 02's examples, and the worked examples of the manuals: source 000 (Wang 2200 A/B), and sources 001
-// (Wang 3300) and 004 (Wang 2200VS) where their rules are document 01's. Beside a row stands its page and, where the manual prints
+// Prints the rows of document 01's Known values, of document 02's examples, and the worked examples of the manuals: source 000
+// (Wang 2200 A/B), and sources 001 (Wang 3300) and 004 (Wang 2200VS) where their rules are document 01's. Beside a row stands its page and, where the manual prints
 // something else, the misprint or the difference of dialect. The up arrow of the manuals is the byte 5E, in rows ^.
 // A value that a manual does not state is taken from what it prints. What a row has, the functions image_row and so on say.
 #![tactic(auto)]

@@ -32,11 +32,7 @@ pub(crate) fn print_signed(out: &mut impl Write, negative: bool, whole: u64) -> 
 // Writes e and a power that is held with some excess added.
 fn print_power(out: &mut impl Write, held: usize, excess: usize) -> io::Result<()> {
     print_raw(out, b" e ")?;
-    if held < excess {
-        print_signed(out, true, (excess - held) as u64)
-    } else {
-        print_signed(out, false, (held - excess) as u64)
-    }
+    print_signed(out, held < excess, held.abs_diff(excess) as u64)
 }
 
 // Writes a number in normal form: sign and mantissa, then e and the exponent.

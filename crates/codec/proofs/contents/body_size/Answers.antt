@@ -1,6 +1,6 @@
 -- `body_size` meets its contract: each image that a contents can have is of at most 13 # signs, and its column of at most 9 bytes.
 -- Assumes nothing.
-use Rattle.std.proofs.Common.{length, take, refl, ap, ◌∙◌, arith}
+use Rattle.std.proofs.Common.{refl, ap, ◌∙◌, arith}
 use Rattle.std.proofs.lemmas.List.{take_all}
 use Rattle.codec.specs.Lists.{no_image}
 use Rattle.codec.specs.Columns.{body_size}

@@ -1,5 +1,5 @@
 -- `read_contents` meets its contract: refused for the count, or as the first column that is; else its columns' images. Assumes nothing.
-use Rattle.std.proofs.Common.{◌≡◌, ℕ, List, drop, sym, ap, ◌∙◌, ⊎_elim, arith}
+use Rattle.std.proofs.Common.{ℕ, List, drop, sym, ap, ◌∙◌, ⊎_elim, arith}
 use Rattle.decimal.specs.Answer.{mapped}
 use Rattle.decimal.proofs.AnswerLaws.{passed_on, mapped_refused}
 use Rattle.codec.specs.Contents.{read_contents, contents_of}

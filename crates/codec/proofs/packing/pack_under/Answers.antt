@@ -1,7 +1,6 @@
 -- `pack_under` meets its contract: the refusals in document 01's order, else the body at the buffer's start. Assumes nothing.
-use Rattle.std.proofs.Common.{◌≡◌, ◌<◌, ◌≤◌, length, sym, refl, ◌∙◌, arith}
+use Rattle.std.proofs.Common.{length, sym, refl, ◌∙◌, arith}
 use Rattle.std.proofs.lemmas.List.{length-take-le}
-use Rattle.decimal.specs.declared.image.Image.{Image}
 use Rattle.decimal.proofs.KeptLaws.{checked_refused}
 use Rattle.decimal.proofs.AnswerLaws.{passed_on}
 use Rattle.codec.specs.Packing.{packing_under}

@@ -1,5 +1,5 @@
 -- `write_columns` meets its contract. The loop's invariant: the columns so far are written, and the place is behind them. Assumes nothing.
-use Rattle.std.specs.Prelude.{◌≡◌, length, take}
+use Rattle.std.specs.Prelude.{◌≡◌, take}
 use Rattle.codec.specs.Answers.{written}
 use Rattle.codec.specs.Columns.{body_size}
 use Rattle.codec.proofs.BodyLaws.{bytes_of}

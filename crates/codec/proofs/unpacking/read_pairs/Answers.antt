@@ -7,27 +7,18 @@ use Rattle.codec.proofs.unpacking.read_pairs.Goals as goal
 pub loop-byte-init : goal.loop-byte-init
 loop-byte-init c = run_starts c.args.bytes.now c.args.start c.requires.1
 
-pub returns-then-is_bad : goal.returns-then-is_bad
-returns-then-is_bad c =
-    let b = get_or c.args.bytes.now c.loop-byte.byte-index 0 in
-    sym (run_stops c.loop-byte.invariant c.loop-byte-test.true (c.requires.2.worth_at b (omega (arith, c.type_inv.bytes c.loop-byte.byte-index))) (omega arith))
+pub returns-in_err-value : goal.returns-in_err-value
+returns-in_err-value c = rw c.from_residual.ensures (sym (run_stops c.loop-byte.invariant c.loop-byte-test.true c.in_err-value.ensures))
 
 pub overflow_mul-value : goal.overflow_mul-value
 overflow_mul-value c = omega (arith, run_small c.loop-byte.invariant (omega arith))
 
 pub overflow_add-value : goal.overflow_add-value
 overflow_add-value c =
-    let b = get_or c.args.bytes.now c.loop-byte.byte-index 0 in
-    omega (
-      arith,
-      run_small c.loop-byte.invariant (omega arith),
-      worth_below b (c.requires.2.worth_at b (omega (arith, c.type_inv.bytes c.loop-byte.byte-index))) (λ z. omega arith),
-    )
+    omega (arith, run_small c.loop-byte.invariant (omega arith), worth_below (get_or c.args.bytes.now c.loop-byte.byte-index 0) c.in_ok-value.ensures)
 
 pub loop-byte-preserved : goal.loop-byte-preserved
-loop-byte-preserved c =
-    let b = get_or c.args.bytes.now c.loop-byte.byte-index 0 in
-    run_turns c.loop-byte.invariant c.loop-byte-test.true (c.requires.2.worth_at b (omega (arith, c.type_inv.bytes c.loop-byte.byte-index))) (λ z. omega arith)
+loop-byte-preserved c = run_turns c.loop-byte.invariant c.loop-byte-test.true c.in_ok-value.ensures
 
 pub returns : goal.returns
 returns c = run_ends c.loop-byte.invariant c.loop-byte-test.false

@@ -9,22 +9,25 @@ read_run-requires c =
     let some = column_some c.requires.0 in
     let few = column_few c.requires.0 in
     let signs = sign_few c.args.image.sign in
-    (omega arith, omega arith, omega arith, c.requires.2)
+    (omega arith, omega arith, omega arith)
 
 pub returns-in_default : goal.returns-in_default
 returns-in_default c =
     sym (column_bad c.args.column c.args.image c.args.bytes.now c.requires.0 c.requires.1 c.sign_count-signs.ensures (sym c.in_default.ensures))
 
-pub column_sign-half-requires : goal.column_sign-half-requires
-column_sign-half-requires c = omega (arith, column_some c.requires.0)
+pub column_sign-sign-requires : goal.column_sign-sign-requires
+column_sign-sign-requires c = omega (arith, column_some c.requires.0)
 
-pub run_number-requires : goal.run_number-requires
-run_number-requires c =
-    (c.requires.0.fits, column_small c.args.column c.args.image c.args.bytes.now c.requires.0 c.requires.1 c.sign_count-signs.ensures (sym c.in-Some.ensures))
+pub invariant_of-parts : goal.invariant_of-parts
+invariant_of-parts c =
+    record {
+      fits = c.requires.0.fits;
+      small = column_small c.args.column c.args.image c.args.bytes.now c.requires.0 c.requires.1 c.sign_count-signs.ensures (sym c.in-Some.ensures);
+    }
 
 pub returns : goal.returns
 returns c =
     c.run_number.ensures
     ∙ sym
     (column_run c.args.column c.args.image c.args.bytes.now c.requires.0 c.requires.1 c.sign_count-signs.ensures (sym c.in-Some.ensures)
-    c.column_sign-half.ensures)
+    c.column_sign-sign.ensures)

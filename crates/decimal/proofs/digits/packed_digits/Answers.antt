@@ -1,5 +1,5 @@
 -- `decimal::digits::packed_digits` meets its contract. The loop's invariant: the digits so far, and those of the rest behind them, are the
--- mantissa's digits. The measure is the count of digits that are left. Assumes nothing.
+-- mantissa's digits. Assumes nothing.
 use Rattle.std.proofs.Common.{◌≡◌, ℕ, zero, suc, ◌+◌, ◌-◌, ◌*◌, ◌/◌, ◌%◌, ◌^◌, ◌<◌, ◌≤◌, List, [], ◌∷◌, ◌++◌, take, drop, sym, refl, ap, ◌∙◌, ⊎_elim, mul-le-mul_right, mod-eq_of_lt, add-one, arith, shl_exact}
 use lib.Arith.{digits_div, digits_mod as mod_low}
 use lib.Bits.{bit_or, or_shifted}
@@ -78,26 +78,23 @@ turn mantissa done packed rest power taken more s given takes =
 
 pub loop-done-init : goal.loop-done-init
 unfolding packed_of
-loop-done-init c = (omega arith, record { first = refl; others = refl; below = c.requires.0 })
+loop-done-init c = record { first = refl; others = refl; below = c.requires.0 }
 
 pub take_digit-taken-requires : goal.take_digit-taken-requires
 take_digit-taken-requires c =
     let l = c.loop-done in
     let power = power_left (l.done + 1) c.power_of_ten.ensures in
     let tens = next_power l.done (omega arith) in
-    (omega (arith, l.invariant.1.below), omega (arith, pow10_mono {i = precision - l.done} {j = precision} (omega arith)))
+    (omega (arith, l.invariant.below), omega (arith, pow10_mono {i = precision - l.done} {j = precision} (omega arith)))
 
 pub loop-done-preserved : goal.loop-done-preserved
 loop-done-preserved c =
-    let q = c in
-    let p = q in
-    let l = p.loop-done in
-    let a = p.args in
-    (omega arith, turn a.mantissa l.done l.packed l.rest p.power_of_ten.result q.take_digit-taken.result (omega arith) l.invariant.1 p.power_of_ten.ensures q.take_digit-taken.ensures)
+    let l = c.loop-done in
+    turn c.args.mantissa l.done l.packed l.rest c.power_of_ten.result c.take_digit-taken.result (omega arith) l.invariant c.power_of_ten.ensures
+    c.take_digit-taken.ensures
 
 pub returns : goal.returns
 returns c =
     let l = c.loop-done in
-    let a = c.args in
-    let all : l.done ≡ a.count = omega arith in
-    l.invariant.1.first ∙ ap (λ (n : ℕ). packed_of (take n (digits_of precision a.mantissa))) all
+    let all : l.done ≡ c.args.count = omega arith in
+    l.invariant.first ∙ ap (λ (n : ℕ). packed_of (take n (digits_of precision c.args.mantissa))) all

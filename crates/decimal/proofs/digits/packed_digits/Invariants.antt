@@ -1,5 +1,5 @@
 -- `decimal::digits::packed_digits` meets its contract. The loop's invariant: the digits so far, and those of the rest behind them, are the
--- mantissa's digits. The measure is the count of digits that are left. Assumes nothing.
+-- mantissa's digits. Assumes nothing.
 use Rattle.std.proofs.Common.{◌≡◌, ℕ, ◌-◌, ◌^◌, ◌<◌, ◌≤◌, take, drop}
 use Rattle.decimal.specs.Digits.{precision, digits_of, packed_of}
 use Rattle.decimal.proofs.digits.packed_digits.Given as goal
@@ -11,7 +11,4 @@ pub record SoFar (mantissa done packed rest : ℕ) : Type 0 where
   pub below : rest < 10 ^ (precision - done)
 
 abbrev pub invariant-loop-done : goal.invariant-loop-done
-invariant-loop-done l = (l.done ≤ l.count) × SoFar l.mantissa l.done l.packed l.rest
-
-abbrev pub decreases-loop-done : goal.decreases-loop-done
-decreases-loop-done l = l.count - l.done
+invariant-loop-done l = SoFar l.mantissa l.done l.packed l.rest

@@ -7,7 +7,7 @@ use borrow.Author.Tests.{eqb-true, eqb-false}
 use Rattle.arrayvec.specs.ArrayVec.{ArrayVec}
 use Rattle.decimal.specs.Answer.{checked_only}
 use Rattle.records.specs.declared.finding.Field.{Field}
-use Rattle.records.proofs.FindLaws.{finding_skips, finding_ends, finding_inside, finding_byte, finding_refused, finding_turn}
+use Rattle.records.proofs.FindLaws.{finding_skips, found_listed, finding_inside, finding_byte, found_refused, finding_turn}
 use Rattle.records.proofs.finding.find_fields.Goals as goal
 use Rattle.records.proofs.finding.find_fields.Goals.{then-not-is_full, else-not-is_full}
 
@@ -25,7 +25,7 @@ pub returns-then-scanned-gt-PRECISION-clause-answer : goal.returns-then-scanned-
 unfolding checked_only
 returns-then-scanned-gt-PRECISION-clause-answer c =
     let r = finding_skips c.loop-skipped.invariant (sym c.next_start.ensures ∙ c.in-Some.is) in
-    sym (finding_refused r.0 c.scan_field-scanned.ensures c.if-scanned-eq0.false c.if-scanned-gt-PRECISION.true)
+    sym (found_refused r.0 c.scan_field-scanned.ensures c.if-scanned-eq0.false c.if-scanned-gt-PRECISION.true)
 
 pub overflow_add-at-else-scanned-eq0 : goal.overflow_add-at-else-scanned-eq0
 overflow_add-at-else-scanned-eq0 c =
@@ -44,5 +44,5 @@ loop-skipped-preserved c =
 pub returns : goal.returns
 unfolding checked_only
 returns c =
-    let end = finding_ends c.loop-skipped.invariant (sym c.next_start.ensures ∙ c.in_default.is) in
+    let end = found_listed c.loop-skipped.invariant (sym c.next_start.ensures ∙ c.in_default.is) in
     record { listed = end.1; answer = sym end.0 }

@@ -5,10 +5,11 @@ use mathlib.Core.Logic.{inl, inr}
 use borrow.Author.Tests.{eqb-true, eqb-false}
 use Rattle.decimal.specs.Answer.{checked_only}
 use Rattle.decimal.proofs.AnswerLaws.{passed_on}
-use Rattle.records.proofs.CheckLaws.{counts_refused, counts_done, some_done, some_refused, line_counts, line_fields_lem, line_some, line_elements}
-use Rattle.records.proofs.FindLaws.{listed_none, listed_one}
+use Rattle.records.proofs.CheckLaws.{counts_refused, counts_done, some_refused, line_counts, line_fields_lem, line_some}
+use Rattle.records.proofs.FindLaws.{listed_none}
+use Rattle.records.proofs.PrintCallLaws.{line_listed}
 use Rattle.records.proofs.printing.check_line.Goals as goal
-use Rattle.records.proofs.printing.check_line.Goals.{else-is_empty-via-then-is_empty+else-not-is_empty, else-is_empty-via-else-is_empty}
+use Rattle.records.proofs.printing.check_line.Goals.{else-is_empty-via-then-is_empty+else-has_elements, else-is_empty-via-else-is_empty}
 
 pub returns-then-elements-gt-ELEMENTS-clause-answer : goal.returns-then-elements-gt-ELEMENTS-clause-answer
 unfolding checked_only
@@ -22,13 +23,13 @@ returns-in_err-fields-clause-answer c =
     ∙ sym (line_fields_lem c.args.line.now c.args.elements.now c.args.room
     (counts_done _ _ c.if-elements-gt-ELEMENTS.false c.if-line-gt-LINE_LENGTH.false) (sym c.in_err-fields.ensures.answer))
 
-pub returns-then-not-is_empty-clause-answer : goal.returns-then-not-is_empty-clause-answer
+pub returns-then-has_elements-clause-answer : goal.returns-then-has_elements-clause-answer
 unfolding checked_only
-returns-then-not-is_empty-clause-answer c =
+returns-then-has_elements-clause-answer c =
     sym (line_some c.args.line.now c.args.elements.now c.args.room
     (counts_done _ _ c.if-elements-gt-ELEMENTS.false c.if-line-gt-LINE_LENGTH.false)
     (sym c.in_ok-fields.ensures.answer)
-    (some_refused _ _ (omega (arith, eqb-false _ _ (sym c.is_empty-then-is_empty.ensures ∙ c.if-not-is_empty.true)))
+    (some_refused _ _ c.if-has_elements.true
     (listed_none c.in_ok-fields.ensures.listed (eqb-true _ _ (sym c.is_empty.ensures ∙ c.if-is_empty.true)))))
 
 pub returns-in_err-check_elements-clause-answer : goal.returns-in_err-check_elements-clause-answer
@@ -37,25 +38,19 @@ returns-in_err-check_elements-clause-answer c =
     ap checked_only (passed_on _ _ c.from_residual-in_err-check_elements.ensures.1)
     ∙ c.in_err-check_elements.ensures
     ∙ sym
-    (line_elements c.args.line.now c.args.elements.now c.args.room
-    (counts_done _ _ c.if-elements-gt-ELEMENTS.false c.if-line-gt-LINE_LENGTH.false)
-    (sym c.in_ok-fields.ensures.answer)
-    (some_done _ _
+    (line_listed _ _ _ c.if-elements-gt-ELEMENTS.false c.if-line-gt-LINE_LENGTH.false (sym c.in_ok-fields.ensures.answer) c.in_ok-fields.ensures.listed
     (elim c.else-is_empty.branch [
-      | else-is_empty-via-then-is_empty+else-not-is_empty w ↦ inr (eqb-true _ _ (sym w.is_empty-then-is_empty.ensures ∙ w.if-not-is_empty.false))
-      | else-is_empty-via-else-is_empty w ↦ inl (listed_one c.in_ok-fields.ensures.listed (omega (arith, eqb-false _ _ (sym c.is_empty.ensures ∙ w.if-is_empty.false))))
-    ])))
+      | else-is_empty-via-then-is_empty+else-has_elements w ↦ inr (omega (arith, w.if-has_elements.false))
+      | else-is_empty-via-else-is_empty w ↦ inl (omega (arith, eqb-false _ _ (sym c.is_empty.ensures ∙ w.if-is_empty.false)))
+    ]))
 
 pub returns-clause-answer : goal.returns-clause-answer
 unfolding checked_only
 returns-clause-answer c =
     c.in_ok-check_elements.ensures
     ∙ sym
-    (line_elements c.args.line.now c.args.elements.now c.args.room
-    (counts_done _ _ c.if-elements-gt-ELEMENTS.false c.if-line-gt-LINE_LENGTH.false)
-    (sym c.in_ok-fields.ensures.answer)
-    (some_done _ _
+    (line_listed _ _ _ c.if-elements-gt-ELEMENTS.false c.if-line-gt-LINE_LENGTH.false (sym c.in_ok-fields.ensures.answer) c.in_ok-fields.ensures.listed
     (elim c.else-is_empty.branch [
-      | else-is_empty-via-then-is_empty+else-not-is_empty w ↦ inr (eqb-true _ _ (sym w.is_empty-then-is_empty.ensures ∙ w.if-not-is_empty.false))
-      | else-is_empty-via-else-is_empty w ↦ inl (listed_one c.in_ok-fields.ensures.listed (omega (arith, eqb-false _ _ (sym c.is_empty.ensures ∙ w.if-is_empty.false))))
-    ])))
+      | else-is_empty-via-then-is_empty+else-has_elements w ↦ inr (omega (arith, w.if-has_elements.false))
+      | else-is_empty-via-else-is_empty w ↦ inl (omega (arith, eqb-false _ _ (sym c.is_empty.ensures ∙ w.if-is_empty.false)))
+    ]))
