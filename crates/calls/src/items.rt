@@ -6,24 +6,26 @@ use decimal::Number;
 use records::{ELEMENTS, Element};
 
 // The bytes of an item.
-const ITEM: usize = 17;
+const ITEM: usize = 1 + 2 * WHOLE;
+
+// The bytes of a whole number of an item.
+const WHOLE: usize = 8;
 
 // The most items that are read of a list: one more than any call takes, so that a longer list is refused.
 const LISTED: usize = ELEMENTS + 1;
 
-// The element of an item.
+// The element of an item. Its kind is a byte of the input, which is read only here: above 2 it is read as 0 is.
 fn element_of(item: &[u8; ITEM]) -> Element {
-    let kind = item[0];
-    let first = whole(&item[1..9]);
-    let second = whole(&item[9..]);
-    if kind == 2 {
-        return Element::Text(first, second);
+    let (first, second) = item[1..].split_at(WHOLE);
+    let (first, second) = (whole(first), whole(second));
+    match item[0] {
+        2 => Element::Text(first, second),
+        kind => Element::Number(Number {
+            negative: kind == 1,
+            mantissa: first as u64,
+            exponent: second,
+        }),
     }
-    Element::Number(Number {
-        negative: kind == 1,
-        mantissa: first as u64,
-        exponent: second,
-    })
 }
 
 // The number of an element; zero for a text.
@@ -36,10 +38,9 @@ fn number_of(element: Element) -> Number {
 
 // The number whose item bytes begin with; zero where they are too short.
 pub(crate) fn number_in(bytes: &[u8]) -> Number {
-    let (items, _) = bytes.as_chunks::<ITEM>();
-    match items {
-        [item, ..] => number_of(element_of(item)),
-        [] => Number::ZERO,
+    match bytes.first_chunk() {
+        Some(item) => number_of(element_of(item)),
+        None => Number::ZERO,
     }
 }
 
@@ -65,5 +66,5 @@ pub(crate) fn elements_in(bytes: &[u8]) -> ArrayVec<Element, LISTED> {
 
 // The numbers of a list, up to LISTED.
 pub(crate) fn numbers_in(bytes: &[u8]) -> ArrayVec<Number, LISTED> {
-    made_of(bytes, |element| number_of(element))
+    made_of(bytes, number_of)
 }

@@ -1,12 +1,12 @@
 // The calls, a function for each: its arguments are a line's words as bytes, and it writes the answer and every byte of a lent buffer.
 use crate::items::{elements_in, number_in, numbers_in};
 use crate::shown::{
-    print_buffer, print_bytes, print_check, print_count, print_number, print_numbers, print_parts,
-    print_places, print_raw, print_refusal, print_remainder, print_remainders, print_written,
+    print_answer, print_buffer, print_bytes, print_count, print_number, print_numbers, print_parts,
+    print_places, print_remainder, print_remainders, print_written,
 };
 use crate::words::whole;
 use codec::Stop;
-use decimal::{Image, Sign, Truncation};
+use decimal::{Image, Number, Sign, Truncation};
 use rolls::POSITIONS;
 use std::cmp::Ordering;
 use std::io;
@@ -24,6 +24,7 @@ pub(crate) fn pack(
 }
 
 // cutoff BUFFER CONTENTS NUMBERS: as pack, and what truncation cut off each number.
+// A match and no print_answer, as in unpack, numbers and find: a list or a place stands behind a refusal too.
 pub(crate) fn cutoff(
     out: &mut impl Write,
     buffer: &mut [u8],
@@ -46,11 +47,11 @@ pub(crate) fn cutoff(
 pub(crate) fn unpack(out: &mut impl Write, contents: &[u8], body: &[u8]) -> io::Result<()> {
     match codec::unpack(contents, body) {
         Err(refusal) => {
-            print_refusal(out, refusal)?;
+            write!(out, "{refusal}")?;
             print_numbers(out, &[])
         }
         Ok(numbers) => {
-            print_raw(out, b"ok")?;
+            out.write_all(b"ok")?;
             print_numbers(out, &numbers)
         }
     }
@@ -69,35 +70,35 @@ pub(crate) fn alpha(
 
 // legal TEXT
 pub(crate) fn legal(out: &mut impl Write, text: &[u8]) -> io::Result<()> {
-    print_raw(out, b"ok")?;
-    print_count(out, codec::legal_length(text))
+    write!(out, "ok {}", codec::legal_length(text))
+}
+
+// convert TEXT
+pub(crate) fn convert(out: &mut impl Write, text: &[u8]) -> io::Result<()> {
+    print_answer(out, codec::convert(text), print_number)
 }
 
 // read TEXT: the number, and the bytes used.
-pub(crate) fn read(out: &mut impl Write, text: &[u8]) -> io::Result<()> {
-    match codec::read_text_number(text) {
-        Err(refusal) => print_refusal(out, refusal),
-        Ok(read) => {
-            print_number(out, Ok(read.number))?;
-            print_count(out, read.used)
-        }
-    }
+pub(crate) fn read<W: Write>(out: &mut W, text: &[u8]) -> io::Result<()> {
+    print_answer(out, codec::read_text_number(text), |out, read| {
+        print_number(out, read.number)?;
+        print_count(out, read.used)
+    })
 }
 
 // place TEXT FROM
 pub(crate) fn place(out: &mut impl Write, text: &[u8], from: &[u8]) -> io::Result<()> {
-    print_raw(out, b"ok")?;
-    print_count(out, codec::next_number_place(text, whole(from)))
+    write!(out, "ok {}", codec::next_number_place(text, whole(from)))
 }
 
 // numbers TEXT FROM
 pub(crate) fn numbers(out: &mut impl Write, text: &[u8], from: &[u8]) -> io::Result<()> {
     let walked = codec::read_text_numbers(text, whole(from));
     match walked.answer {
-        Ok(Stop::End) => print_raw(out, b"end")?,
-        Ok(Stop::NoNumber) => print_raw(out, b"none")?,
-        Ok(Stop::TooMany) => print_raw(out, b"many")?,
-        Err(refusal) => print_refusal(out, refusal)?,
+        Ok(Stop::End) => out.write_all(b"end")?,
+        Ok(Stop::NoNumber) => out.write_all(b"none")?,
+        Ok(Stop::TooMany) => out.write_all(b"many")?,
+        Err(refusal) => write!(out, "{refusal}")?,
     }
     print_count(out, walked.place)?;
     print_numbers(out, &walked.numbers)
@@ -105,38 +106,37 @@ pub(crate) fn numbers(out: &mut impl Write, text: &[u8], from: &[u8]) -> io::Res
 
 // scan LINE AT
 pub(crate) fn scan(out: &mut impl Write, line: &[u8], at: &[u8]) -> io::Result<()> {
-    print_raw(out, b"ok")?;
-    print_count(out, records::scan(line, whole(at)))
+    write!(out, "ok {}", records::scan(line, whole(at)))
 }
 
 // print BUFFER LINE ELEMENTS TEXTS
-pub(crate) fn print(
-    out: &mut impl Write,
+pub(crate) fn print<W: Write>(
+    out: &mut W,
     buffer: &mut [u8],
     line: &[u8],
     elements: &[u8],
     texts: &[u8],
 ) -> io::Result<()> {
-    match records::print(line, &elements_in(elements), texts, &mut *buffer) {
-        Err(refusal) => print_refusal(out, refusal)?,
-        Ok(printed) => {
-            print_raw(out, b"ok")?;
-            print_bytes(out, codec::written_part(Ok(printed.bytes), &*buffer))?;
-            print_count(out, printed.spilled)?;
-        }
-    }
+    let answer = records::print(line, &elements_in(elements), texts, &mut *buffer);
+    print_answer(out, answer, |out, printed| {
+        print_bytes(out, codec::written_part(Ok(printed.bytes), &*buffer))?;
+        print_count(out, printed.spilled)
+    })?;
     print_buffer(out, &*buffer)
 }
 
 // forecast LENGTH COUNT
 pub(crate) fn forecast(out: &mut impl Write, length: &[u8], count: &[u8]) -> io::Result<()> {
-    match records::forecast(whole(length), whole(count)) {
-        Err(refusal) => print_refusal(out, refusal),
-        Ok(bytes) => {
-            print_raw(out, b"ok")?;
-            print_count(out, bytes)
-        }
-    }
+    print_answer(
+        out,
+        records::forecast(whole(length), whole(count)),
+        print_count,
+    )
+}
+
+// field BYTES
+pub(crate) fn field(out: &mut impl Write, bytes: &[u8]) -> io::Result<()> {
+    print_answer(out, records::read_field(bytes), print_number)
 }
 
 // contents BUFFER CONTENTS
@@ -152,27 +152,17 @@ pub(crate) fn add(
     used: &[u8],
     numbers: &[u8],
 ) -> io::Result<()> {
-    match records::add(whole(used), &numbers_in(numbers), &mut *buffer) {
-        Err(refusal) => print_refusal(out, refusal)?,
-        Ok(length) => {
-            print_raw(out, b"ok")?;
-            print_count(out, length)?;
-        }
-    }
+    let answer = records::add(whole(used), &numbers_in(numbers), &mut *buffer);
+    print_answer(out, answer, print_count)?;
     print_buffer(out, &*buffer)
 }
 
 // show FILE R: the place of the body, and the body.
-pub(crate) fn show(out: &mut impl Write, file: &[u8], index: &[u8]) -> io::Result<()> {
+pub(crate) fn show<W: Write>(out: &mut W, file: &[u8], index: &[u8]) -> io::Result<()> {
     let record = whole(index);
-    match records::show(file, record) {
-        Err(refusal) => print_refusal(out, refusal)?,
-        Ok(body) => {
-            print_raw(out, b"ok")?;
-            print_count(out, body.start)?;
-            print_count(out, body.len())?;
-        }
-    }
+    print_answer(out, records::show(file, record), |out, body| {
+        write!(out, " {} {}", body.start, body.len())
+    })?;
     print_bytes(out, records::shown_body(file, record))
 }
 
@@ -189,84 +179,92 @@ pub(crate) fn report(out: &mut impl Write, buffer: &mut [u8], file: &[u8]) -> io
 }
 
 // Writes record numbers: as many as a page can have, zeros behind the last one.
-fn print_records<W: Write>(out: &mut W, records: &[usize]) -> io::Result<()> {
-    print_places(out, records, POSITIONS, 0, |out, record| {
-        print_count(out, record)
-    })
+fn print_records(out: &mut impl Write, records: &[usize]) -> io::Result<()> {
+    print_places(out, records, POSITIONS, print_count)
 }
 
 // find FILE POSITIONS: the count of comparisons, and the record numbers.
 pub(crate) fn find(out: &mut impl Write, file: &[u8], positions: &[u8]) -> io::Result<()> {
     match rolls::find(file, &numbers_in(positions)) {
         Err(refusal) => {
-            print_refusal(out, refusal)?;
+            write!(out, "{refusal}")?;
             print_records(out, &[])
         }
         Ok(found) => {
-            print_raw(out, b"ok")?;
-            print_count(out, found.comparisons)?;
+            write!(out, "ok {}", found.comparisons)?;
             print_records(out, &found.records)
         }
     }
 }
 
-// compare NUMBER NUMBER
-pub(crate) fn compare(out: &mut impl Write, first: &[u8], second: &[u8]) -> io::Result<()> {
-    match decimal::compare(number_in(first), number_in(second)) {
-        Err(refusal) => print_refusal(out, refusal),
-        Ok(Ordering::Less) => print_raw(out, b"ok less"),
-        Ok(Ordering::Equal) => print_raw(out, b"ok equal"),
-        Ok(Ordering::Greater) => print_raw(out, b"ok greater"),
+// Writes a blank and an order.
+fn print_order(out: &mut impl Write, order: Ordering) -> io::Result<()> {
+    match order {
+        Ordering::Less => out.write_all(b" less"),
+        Ordering::Equal => out.write_all(b" equal"),
+        Ordering::Greater => out.write_all(b" greater"),
     }
 }
 
-// Writes an image.
+// compare NUMBER NUMBER
+pub(crate) fn compare(out: &mut impl Write, first: &[u8], second: &[u8]) -> io::Result<()> {
+    let answer = decimal::compare(number_in(first), number_in(second));
+    print_answer(out, answer, print_order)
+}
+
+// Writes a blank and an image.
 fn print_image(out: &mut impl Write, image: Image) -> io::Result<()> {
     match image.sign {
-        Sign::Unsigned => print_raw(out, b"ok unsigned")?,
-        Sign::Plus => print_raw(out, b"ok plus")?,
-        Sign::Minus => print_raw(out, b"ok minus")?,
+        Sign::Unsigned => out.write_all(b" unsigned")?,
+        Sign::Plus => out.write_all(b" plus")?,
+        Sign::Minus => out.write_all(b" minus")?,
     }
-    print_count(out, image.integer as usize)?;
-    print_count(out, image.fraction as usize)?;
+    write!(out, " {} {}", image.integer, image.fraction)?;
     if image.exponential {
-        print_raw(out, b" exponential")?;
+        out.write_all(b" exponential")?;
     }
     Ok(())
 }
 
 // image IMAGE PLACE
 pub(crate) fn image(out: &mut impl Write, bytes: &[u8], place: &[u8]) -> io::Result<()> {
-    match decimal::read_image(bytes, whole(place)) {
-        Err(refusal) => print_refusal(out, refusal),
-        Ok(image) => print_image(out, image),
-    }
+    print_answer(out, decimal::read_image(bytes, whole(place)), print_image)
 }
 
-// truncate IMAGE NUMBER PLACE: the number's truncation and its parts, whether the number packs, and what is cut off.
+// Writes a number's truncation and its parts, whether the number packs, and what is cut off.
+fn print_truncation<W: Write>(
+    out: &mut W,
+    image: Image,
+    number: Number,
+    place: usize,
+) -> io::Result<()> {
+    print_answer(out, decimal::truncated(image, number, place), print_number)?;
+    let parts = decimal::truncate(image, number, place).unwrap_or(Truncation::ZERO);
+    print_parts(out, parts.negative, parts.halves, parts.x)?;
+    out.write_all(b" packing ")?;
+    print_answer(
+        out,
+        decimal::fit_packed(image, number, place),
+        |_, ()| Ok(()),
+    )?;
+    out.write_all(b" cut off ")?;
+    print_answer(
+        out,
+        decimal::remainder_of(image, number, place),
+        print_remainder,
+    )
+}
+
+// truncate IMAGE NUMBER PLACE: what print_truncation writes.
 pub(crate) fn truncate(
     out: &mut impl Write,
     bytes: &[u8],
     number: &[u8],
     place: &[u8],
 ) -> io::Result<()> {
-    let at = whole(place);
-    let value = number_in(number);
-    let image = match decimal::read_image(bytes, at) {
-        Err(refusal) => return print_refusal(out, refusal),
-        Ok(image) => image,
-    };
-    print_number(out, decimal::truncated(image, value, at))?;
-    let parts = decimal::truncate(image, value, at).unwrap_or(Truncation::ZERO);
-    print_parts(out, parts.negative, parts.halves, parts.x)?;
-    print_raw(out, b" packing ")?;
-    print_check(out, decimal::fit_packed(image, value, at))?;
-    print_raw(out, b" cut off ")?;
-    match decimal::remainder_of(image, value, at) {
-        Err(refusal) => print_refusal(out, refusal),
-        Ok(remainder) => {
-            print_raw(out, b"ok")?;
-            print_remainder(out, remainder)
-        }
+    let place = whole(place);
+    match decimal::read_image(bytes, place) {
+        Err(refusal) => write!(out, "{refusal}"),
+        Ok(image) => print_truncation(out, image, number_in(number), place),
     }
 }

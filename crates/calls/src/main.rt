@@ -7,18 +7,17 @@ mod layers;
 mod shown;
 mod words;
 
-use crate::shown::{print_damaged, print_number, print_raw};
-use crate::words::{decode, end_of, is_bytes, whole, word};
+use crate::words::{decode, is_bytes};
 use std::io;
 use std::io::Write;
 
-// An input of so many bytes is too long: it has one answer, ?.
+// An input of so many bytes is too long, since more may follow what is read of it: it has one answer, ?.
 const INPUT: usize = 1 << 18;
 
 // The most bytes of a word in hexadecimal.
 const SPACE: usize = 8192;
 
-// Makes the call of a name.
+// Makes the call of a name; a name that no call has is answered as no call is.
 fn make(
     out: &mut impl Write,
     name: &[u8],
@@ -37,68 +36,54 @@ fn make(
         b"alpha" => layers::alpha(out, first, second, third),
         b"legal" => layers::legal(out, &*first),
         b"read" => layers::read(out, &*first),
-        b"convert" => print_number(out, codec::convert(&*first)),
+        b"convert" => layers::convert(out, &*first),
         b"place" => layers::place(out, &*first, second),
         b"numbers" => layers::numbers(out, &*first, second),
         b"scan" => layers::scan(out, &*first, second),
         b"print" => layers::print(out, first, second, third, fourth),
         b"forecast" => layers::forecast(out, &*first, second),
-        b"field" => print_number(out, records::read_field(&*first)),
+        b"field" => layers::field(out, &*first),
         b"contents" => layers::contents(out, first, second),
         b"add" => layers::add(out, first, second, third),
         b"show" => layers::show(out, &*first, second),
         b"list" => layers::list(out, first, second),
         b"report" => layers::report(out, first, second),
         b"find" => layers::find(out, &*first, second),
-        _ => print_damaged(out),
+        _ => out.write_all(b"?"),
     }
 }
 
-// Whether the name has at most eight bytes, and the words behind it are bytes in hexadecimal that fit.
+// Whether a line is short enough, and the words behind its name are bytes in hexadecimal.
 fn is_call(line: &[u8]) -> bool {
-    if 2 * SPACE < line.len() {
-        return false;
-    }
-    if 8 < word(line, 0).len() {
-        return false;
-    }
-    (1..5).all(|i| is_bytes(word(line, i)))
+    let mut words = line.split(|&byte| byte == b' ').skip(1).take(4);
+    line.len() <= 2 * SPACE && words.all(is_bytes)
 }
 
-// Answers a line.
+// Answers a line; a word that it does not have is no bytes.
 fn answer_line(out: &mut impl Write, line: &[u8]) -> io::Result<()> {
+    if !is_call(line) {
+        return out.write_all(b"?");
+    }
+    let mut words = line.split(|&byte| byte == b' ');
     let mut first = [0u8; SPACE];
     let mut second = [0u8; SPACE];
     let mut third = [0u8; SPACE];
     let mut fourth = [0u8; SPACE];
-    if !is_call(line) {
-        return print_damaged(out);
-    }
-    let a = decode(word(line, 1), &mut first);
-    let b = decode(word(line, 2), &mut second);
-    let c = decode(word(line, 3), &mut third);
-    let d = decode(word(line, 4), &mut fourth);
     make(
         out,
-        word(line, 0),
-        &mut first[..a],
-        &second[..b],
-        &third[..c],
-        &fourth[..d],
+        words.next().unwrap_or(&[]),
+        decode(words.next().unwrap_or(&[]), &mut first),
+        &*decode(words.next().unwrap_or(&[]), &mut second),
+        &*decode(words.next().unwrap_or(&[]), &mut third),
+        &*decode(words.next().unwrap_or(&[]), &mut fourth),
     )
 }
 
-// Answers all lines.
+// Answers all lines; the last one may have no line end.
 fn answer_lines(out: &mut impl Write, input: &[u8]) -> io::Result<()> {
-    let mut rest = input;
-    while !rest.is_empty() {
-        let (line, behind) = rest.split_at(end_of(rest, b'\n'));
-        answer_line(out, line)?;
-        print_raw(out, b"\n")?;
-        let [_, next @ ..] = behind else {
-            break;
-        };
-        rest = next;
+    for line in input.split_inclusive(|&byte| byte == b'\n') {
+        answer_line(out, line.strip_suffix(b"\n").unwrap_or(line))?;
+        out.write_all(b"\n")?;
     }
     Ok(())
 }
@@ -107,7 +92,7 @@ fn answer_lines(out: &mut impl Write, input: &[u8]) -> io::Result<()> {
 fn answer_input(rt: &impl Print, input: &[u8]) -> io::Result<()> {
     let mut out = io::writer(rt);
     if input.len() == INPUT {
-        print_raw(&mut out, b"?\n")
+        out.write_all(b"?\n")
     } else {
         answer_lines(&mut out, input)
     }
@@ -117,6 +102,6 @@ fn answer_input(rt: &impl Print, input: &[u8]) -> io::Result<()> {
 fn main(rt: HostRuntime) {
     let mut input = [0u8; INPUT];
     if let Ok(size) = console::read_input(&rt, &mut input) {
-        console::is_written(&rt, answer_input(&rt, &input[..size]));
+        let _ = console::told(&rt, answer_input(&rt, &input[..size]));
     }
 }

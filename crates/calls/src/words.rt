@@ -1,28 +1,6 @@
-// Reading a line: words parted by one blank, the first a call's name, the others bytes in hexadecimal, a dot for none.
-ghost use Rattle.std.specs.Prelude.{◌≤◌, length};
+// The words of a line, which one blank parts: the first is a call's name, the others are bytes in hexadecimal, a dot for none.
 
-// The place of the first mark; the end where there is none.
-pub(crate) fn end_of(bytes: &[u8], mark: u8) -> usize
-    ensures { result ≤ length bytes.now }
-{
-    bytes
-        .iter()
-        .position(|&byte| byte == mark)
-        .unwrap_or(bytes.len())
-}
-
-// The word of a line with an index from 0; no bytes where there is none.
-pub(crate) fn word(line: &[u8], index: usize) -> &[u8] {
-    let mut rest = line;
-    for _ in 0..index {
-        let (_, behind) = rest.split_at(end_of(rest, b' '));
-        let [_, next @ ..] = behind else {
-            return &[];
-        };
-        rest = next;
-    }
-    &rest[..end_of(rest, b' ')]
-}
+ghost use Rattle.std.specs.Prelude.{◌≤◌};
 
 // Whether a byte is a digit in hexadecimal.
 fn is_digit(byte: u8) -> bool {
@@ -53,25 +31,19 @@ fn byte_of(high: u8, low: u8) -> u8 {
     half(high) * 16 + half(low)
 }
 
-// Puts the bytes that a word has in hexadecimal into a buffer, and gives their count; those that find no room are left out.
-pub(crate) fn decode(word: &[u8], buffer: &mut [u8]) -> usize
-    ensures { result ≤ length buffer.new }
-{
+// Puts the bytes that a word has in hexadecimal into a buffer, and gives these; those that find no room are left out.
+pub(crate) fn decode<'a>(word: &[u8], buffer: &'a mut [u8]) -> &'a mut [u8] {
     let (pairs, _) = word.as_chunks::<2>();
     for (byte, &[high, low]) in buffer.iter_mut().zip(pairs) {
         *byte = byte_of(high, low);
     }
-    pairs.len().min(buffer.len())
-}
-
-// A byte as a whole number.
-fn wide(byte: u8) -> usize {
-    byte as usize
+    let size = pairs.len().min(buffer.len());
+    &mut buffer[..size]
 }
 
 // The whole number that bytes are, the first highest; of more than eight the last eight count.
 pub(crate) fn whole(bytes: &[u8]) -> usize {
     bytes
         .iter()
-        .fold(0, |value: usize, &byte| (value << 8) | wide(byte))
+        .fold(0, |value: usize, &byte| (value << 8) | usize::from(byte))
 }

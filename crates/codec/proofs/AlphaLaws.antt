@@ -29,7 +29,7 @@ use Rattle.codec.proofs.BufferLaws.{front_more, front_all}
 use Rattle.codec.specs.Columns.{sign_count}
 use Rattle.codec.proofs.ContentsLaws.{sign_few}
 use Rattle.codec.specs.Packing.{exponent_size, held_by, Held}
-use Rattle.codec.specs.Alpha.{zero_byte, exponent_byte, digit_bytes, sign_text, fraction_text, exponent_text, alpha_text, alpha_under, alpha_of, writing_alpha_under, writing_alpha, zero_at, fraction_length, exponent_length, tail_length, text_length}
+use Rattle.codec.specs.Alpha.{zero_byte, exponent_byte, digit_bytes, sign_shown, sign_text, fraction_text, exponent_text, alpha_text, alpha_under, alpha_of, writing_alpha_under, writing_alpha, zero_at, fraction_length, exponent_length, tail_length, text_length}
 
 -- Lengths.
 
@@ -95,6 +95,9 @@ pub exponent_few : (e : Bool) → exponent_length e ≤ 4
 unfolding exponent_length
 exponent_few true = omega arith
 exponent_few false = omega arith
+
+-- the parts of a text are few bytes, with the sign
+pub ruleset parts_few = (fraction_few, exponent_few, sign_few)
 
 -- what stands behind the digits before the point
 abbrev tail_text : Image → Truncated → List ℕ
@@ -184,12 +187,19 @@ pub half_byte_at : (n k i : ℕ) → i < n → get_or (digit_bytes (halves_in n 
 half_byte_at n k i h =
     digit_byte_at (halves_in n k) i (omega (arith, halves_length n k)) ∙ ap (λ (d : ℕ). zero_byte + d) (half_at n k i h)
 
--- the first byte of a negative number's text
-pub sign_minus : (s : Sign) {negative : Bool} → 0 < sign_count s → negative ≡ true → minus_byte ≡ get_or (sign_text s negative) 0 0
-unfolding sign_text
-sign_minus Unsigned h e = absurd (omega arith)
-sign_minus Plus h e = rw e
-sign_minus Minus h e = rw e
+-- the byte of a negative number's sign
+pub minus_shown : (s : Sign) {negative : Bool} → negative ≡ true → minus_byte ≡ sign_shown s negative
+unfolding sign_shown
+minus_shown Unsigned e = rw e
+minus_shown Plus e = rw e
+minus_shown Minus e = rw e
+
+-- a sign's text is its byte, where the image has a sign
+sign_first : (s : Sign) (negative : Bool) → 0 < sign_count s → sign_shown s negative ≡ get_or (sign_text s negative) 0 0
+unfolding sign_text sign_shown
+sign_first Unsigned negative h = absurd (omega arith)
+sign_first Plus negative h = refl
+sign_first Minus negative h = refl
 
 -- The parts of a text.
 
@@ -198,11 +208,11 @@ pub sign_filled :
     (s : Sign) (negative : Bool) (target : List ℕ) {v : ℕ}
     → length target ≡ sign_count s
     → 0 < length target
-    → v ≡ get_or (sign_text s negative) 0 0
+    → v ≡ sign_shown s negative
     → set target 0 v ≡ sign_text s negative
 sign_filled s negative target {v} same some e =
     let long : length target ≡ length (sign_text s negative) = same ∙ sym (sign_text_length s negative) in
-    front_all (sign_text s negative) (set target 0 v) (length-set target 0 v ∙ long) 1 (front_more (sign_text s negative) target long 0 refl some e)
+    front_all (sign_text s negative) (set target 0 v) (length-set target 0 v ∙ long) 1 (front_more (sign_text s negative) target long 0 refl some (e ∙ sign_first s negative (omega arith)))
     (omega (arith, length-set target 0 v, sign_few s))
 
 -- the point and the digits behind it
@@ -275,6 +285,11 @@ module _ (a : Answer (List ℕ)) (buffer : List ℕ) where
   unfolding sized
   done_answers h e stored =
       (sym (ap sized h ∙ ap {B = Answer ℕ} done e), stored ∙ sym (ap (λ (b : Answer (List ℕ)). stored_in b buffer) h))
+
+-- what is answered of one packing or text is answered of another that is the same
+pub moved_answers :
+    (buffer : List ℕ) {a b : Answer (List ℕ)} {m : Answer ℕ} {after : List ℕ} → a ≡ b → m ≡ sized a → after ≡ stored_in a buffer → (m ≡ sized b) × (after ≡ stored_in b buffer)
+moved_answers buffer same answer bytes = (answer ∙ ap sized same, bytes ∙ ap (λ (x : Answer (List ℕ)). stored_in x buffer) same)
 
 -- What a number's text is, and when it is refused.
 

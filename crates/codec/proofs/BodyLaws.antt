@@ -4,11 +4,12 @@ use Prim.Native.Nat.{ℕ, zero, suc, ◌+◌, ◌-◌, ◌<◌, ◌≤◌}
 use mathlib.Core.Path.{◌≡◌, refl, ap, ap₂, sym, ◌∙◌}
 use mathlib.Core.List.{List, [], ◌∷◌, ◌++◌, append-nil, append_assoc}
 use mathlib.Core.Bool.{Bool, true, false}
+use Rattle.std.proofs.Common.{◌⊎◌, ⊎_elim}
 use native.Mathlib.Omega.{arith}
 use native.Mathlib.Numerals.{add-one}
 use lib.Dec.{eqb}
-use lib.ListN.{length, take, drop, get_or, length-append, drop_of_length-le}
-use lib.Seq.{drop-cons, length-take-le, take-length}
+use lib.ListN.{length, take, drop, get_or, length-append}
+use lib.Seq.{take_at, length-take-le}
 use Rattle.std.proofs.lemmas.List.{take_all}
 use borrow.Author.Tests.{eq-eqb, ne_eqb, lt-ltb, le-ltb, eqb-true}
 use Rattle.decimal.specs.declared.image.Image.{Image}
@@ -16,17 +17,17 @@ use Rattle.decimal.specs.declared.number.Number.{Number}
 use Rattle.decimal.specs.Answer.{Answer, done, refused, ◌then◌, pick, checked_only}
 use Rattle.decimal.specs.Truncation.{Truncated, truncated_to, packed_truncation, Fit}
 use Rattle.decimal.proofs.KeptLaws.{checked_refused}
-use Rattle.decimal.proofs.AnswerLaws.{one_answer}
+use Rattle.decimal.proofs.AnswerLaws.{one_answer, done_same, then_done}
 use Rattle.codec.specs.Answers.{within, written}
 use Rattle.codec.specs.Columns.{column_size, body_size}
 use Rattle.codec.specs.Contents.{read_alone, check_images}
 use Rattle.codec.specs.Packing.AllPack.{none, one}
-use Rattle.codec.specs.Packing.{column_bytes, pack_columns, pack_list, body_of, packing_under, pack_under, packing, AllPack}
+use Rattle.codec.specs.Packing.{column_bytes, pack_columns, pack_list, body_of, packing_under, pack_under, packing, AllPack, PacksUnder}
 use Rattle.codec.proofs.UnderLaws.{pack_under_checked}
 use borrow.Rule.Slice.PartMut.{put_mid}
-use Rattle.codec.proofs.BufferLaws.{part_written, written_next, written_all}
+use Rattle.codec.proofs.BufferLaws.{part_written, written_length}
 use Rattle.codec.proofs.HalfLaws.{column_length_lem}
-use Rattle.codec.proofs.PackLaws.{packed_anywhere, packs_under, packs_fit, packs_at, packs_length}
+use Rattle.codec.proofs.PackLaws.{packed_anywhere, packs_under, packs_fit, packs_length}
 
 -- the bytes of the truncations, one column behind the other
 unfoldable pub bytes_of : List Image → List Number → List ℕ
@@ -60,6 +61,25 @@ columns_pack column (im ∷ ims) (n ∷ ns) {body} e h =
     first later (done t) f = rest later f (pack_columns (suc column) ims ns) refl
     first later (refused x y) f = never x y (rw f)
 
+-- columns that are packed: the first is, and those behind it
+pub record PackStep (column : ℕ) (im : Image) (ims : List Image) (n : Number) (ns : List Number) (body : List ℕ) : Type 0 where
+  pub to : Truncated
+  pub rest : List ℕ
+  pub first : packed_truncation column im n ≡ done to
+  pub others : pack_columns (suc column) ims ns ≡ done rest
+  pub joined : column_bytes im to ++ rest ≡ body
+
+-- what packed columns tell of the first
+pub pack_view :
+    (column : ℕ) (im : Image) (ims : List Image) (n : Number) (ns : List Number) {body : List ℕ}
+    → pack_columns column (im ∷ ims) (n ∷ ns) ≡ done body
+    → PackStep column im ims n ns body
+unfolding pack_columns
+pack_view column im ims n ns {body} h =
+    let one = then_done (packed_truncation column im n) (λ t. (pack_columns (suc column) ims ns then λ rest. done (column_bytes im t ++ rest))) h in
+    let two = then_done (pack_columns (suc column) ims ns) (λ rest. done (column_bytes im one.value ++ rest)) one.second in
+    record { to = one.value; rest = two.value; first = one.first; others = two.first; joined = done_same two.second }
+
 -- the bytes of a list are as many as the images say
 pub bytes_length : (ims : List Image) (ns : List Number) → length ns ≡ length ims → length (bytes_of ims ns) ≡ body_size ims
 unfolding bytes_of body_size
@@ -74,38 +94,12 @@ pub packed_size : (ims : List Image) (ns : List Number) {body : List ℕ} → le
 packed_size ims ns same h =
     ap length (one_answer h (packs_columns 0 (columns_pack 0 ims ns same h))) ∙ bytes_length ims ns same
 
--- the bytes of one column more
-pub bytes_next :
-    (ims : List Image) (ns : List Number) (k : ℕ) (d : Image) (e : Number)
-    → k < length ims
-    → k < length ns
-    → bytes_of (take (suc k) ims) (take (suc k) ns)
-    ≡ bytes_of (take k ims) (take k ns) ++ column_bytes (get_or ims k d) (truncated_to (get_or ims k d) (get_or ns k e))
-unfolding bytes_of
-bytes_next [] ns k d e h g = absurd (omega arith)
-bytes_next (im ∷ ims) [] k d e h g = absurd (omega arith)
-bytes_next (im ∷ ims) (n ∷ ns) zero d e h g = append-nil _
-bytes_next (im ∷ ims) (n ∷ ns) (suc k) d e h g =
-    ap (λ (l : List ℕ). column_bytes im (truncated_to im n) ++ l) (bytes_next ims ns k d e (omega arith) (omega arith))
-    ∙ sym (append_assoc (column_bytes im (truncated_to im n)) (bytes_of (take k ims) (take k ns)) _)
-
 -- the size of one column more
 pub size_next : (ims : List Image) (k : ℕ) (d : Image) → k < length ims → body_size (take (suc k) ims) ≡ body_size (take k ims) + column_size (get_or ims k d)
 unfolding body_size
 size_next [] k d h = absurd (omega arith)
 size_next (im ∷ ims) zero d h = omega arith
 size_next (im ∷ ims) (suc k) d h = omega (arith, size_next ims k d (omega arith))
-
--- the size of fewer columns is no more
-pub size_front : (ims : List Image) (k n : ℕ) → k ≤ n → body_size (take k ims) ≤ body_size (take n ims)
-unfolding body_size
-size_front [] zero zero h = omega arith
-size_front [] zero (suc n) h = omega arith
-size_front [] (suc k) zero h = omega arith
-size_front [] (suc k) (suc n) h = omega arith
-size_front (im ∷ ims) zero n h = omega arith
-size_front (im ∷ ims) (suc k) zero h = absurd (omega arith)
-size_front (im ∷ ims) (suc k) (suc n) h = omega (arith, size_front ims k n (omega arith))
 
 -- Checking the columns from the left.
 
@@ -143,89 +137,121 @@ module _ (column : ℕ) (im : Image) (n : Number) (ims : List Image) (ns : List 
 pub checked_packs : (ims : List Image) (ns : List Number) → length ns ≡ length ims → checked_only (pack_columns 0 ims ns) ≡ done tt → AllPack ims ns
 checked_packs ims ns same h = columns_pack 0 ims ns same (checked_done (pack_columns 0 ims ns) h).1
 
--- The same from a place of the lists on.
+-- The loop that checks them, over the columns that are left.
 
-module _ (ims : List Image) (ns : List Number) (k : ℕ) (d : Image) (e : Number) (here : k < length ims) (there : k < length ns) where
-  -- how the columns are packed from a column on
-  columns_from :
-      pack_columns k (drop k ims) (drop k ns) ≡ pack_columns k (get_or ims k d ∷ drop (suc k) ims) (get_or ns k e ∷ drop (suc k) ns)
-  columns_from = ap₂ (λ (a : List Image) (b : List Number). pack_columns k a b) (drop-cons ims k d here) (drop-cons ns k e there)
-
+module _ {k column : ℕ} {ims later_ims : List Image} {ns later_ns : List Number} {im : Image} {n : Number}
+    (images : ims ≡ im ∷ later_ims) (numbers : ns ≡ n ∷ later_ns) (same : column ≡ k) where
   -- behind a number that packs the rest decides
   pub columns_turn :
-      checked_only (packed_truncation k (get_or ims k d) (get_or ns k e)) ≡ done tt
-      → checked_only (pack_columns k (drop k ims) (drop k ns)) ≡ checked_only (pack_columns (k + 1) (drop (k + 1) ims) (drop (k + 1) ns))
-  columns_turn h =
-      ap checked_only columns_from
-      ∙ check_turn k (get_or ims k d) (get_or ns k e) (drop (suc k) ims) (drop (suc k) ns) h
-      ∙ ap (λ (i : ℕ). checked_only (pack_columns i (drop i ims) (drop i ns))) (sym (add-one k))
+      {next : ℕ}
+      → next ≡ k + 1
+      → checked_only (packed_truncation column im n) ≡ done tt
+      → checked_only (pack_columns k ims ns) ≡ checked_only (pack_columns next later_ims later_ns)
+  columns_turn behind h =
+      rw (images, numbers, behind, add-one k) (check_turn k im n later_ims later_ns (ap (λ (i : ℕ). checked_only (packed_truncation i im n)) (sym same) ∙ h))
 
   -- a number that is refused decides
   pub columns_refused :
-      {x y : ℕ}
-      → checked_only (packed_truncation k (get_or ims k d) (get_or ns k e)) ≡ refused x y
-      → checked_only (pack_columns k (drop k ims) (drop k ns)) ≡ refused x y
+      {x y : ℕ} → checked_only (packed_truncation column im n) ≡ refused x y → checked_only (pack_columns k ims ns) ≡ refused x y
   unfolding checked_only
   columns_refused h =
-      ap checked_only (columns_from ∙ check_refused k (get_or ims k d) (get_or ns k e) (drop (suc k) ims) (drop (suc k) ns) h)
+      rw (images, numbers)
+      (ap checked_only (check_refused k im n later_ims later_ns (ap (λ (i : ℕ). checked_only (packed_truncation i im n)) (sym same) ∙ h)))
 
--- behind the last column nothing is refused
-pub columns_end : (k : ℕ) (ims : List Image) (ns : List Number) → length ims ≤ k → checked_only (pack_columns k (drop k ims) ns) ≡ done tt
+-- where no column is left nothing is refused
+pub columns_end : (k : ℕ) (ims : List Image) (ns : List Number) → (length ims ≡ 0) ⊎ (length ns ≡ 0) → checked_only (pack_columns k ims ns) ≡ done tt
 unfolding pack_columns checked_only
-columns_end k ims ns h = ap (λ (l : List Image). checked_only (pack_columns k l ns)) (drop_of_length-le ims {i = k} h)
+columns_end k [] ns h = refl
+columns_end k (im ∷ ims) [] h = refl
+columns_end k (im ∷ ims) (n ∷ ns) h = ⊎_elim (λ none. absurd (omega arith)) (λ none. absurd (omega arith)) h
 
--- Writing the columns one behind the other.
+-- the first of a list that packs does, and so do the others
+first_packs : {im : Image} {n : Number} {ims : List Image} {ns : List Number} → AllPack (im ∷ ims) (n ∷ ns) → PacksUnder im n × AllPack ims ns
+first_packs (one p ps) = (p, ps)
 
--- each number of a list that packs fits its image
-pub fits_at : {ims : List Image} {ns : List Number} (k : ℕ) (d : Image) (e : Number) → k < length ims → AllPack ims ns → Fit (get_or ims k d) (get_or ns k e)
-fits_at k d e here packs = packs_fit (packs_at packs k d e here)
-
--- there is room for each column behind those before it
-pub room_at : (ims : List Image) (k : ℕ) (d : Image) → k < length ims → body_size (take k ims) + column_size (get_or ims k d) ≤ body_size ims
-room_at ims k d here =
-    omega (arith, size_next ims k d here, size_front ims (suc k) (length ims) (omega arith), ap body_size (take-length ims))
-
-module _ (ims : List Image) (ns : List Number) (k : ℕ) (d : Image) (e : Number) (here : k < length ims) where
-  -- one more column is written
-  pub columns_written :
-      {start size : ℕ} (first : List ℕ) {now part : List ℕ}
-      → AllPack ims ns
-      → length first ≡ body_size ims
-      → start ≡ body_size (take k ims)
-      → size ≡ column_size (get_or ims k d)
-      → now ≡ written first 0 (bytes_of (take k ims) (take k ns))
-      → part ≡ column_bytes (get_or ims k d) (truncated_to (get_or ims k d) (get_or ns k e))
-      → put_mid start (start + size - start) now part ≡ written first 0 (bytes_of (take (k + 1) ims) (take (k + 1) ns))
-  columns_written {start} {size} first {now} {part} packs room at-start sized before after =
-      let many = packs_length packs in
-      let done-so-far : List ℕ = bytes_of (take k ims) (take k ns) in
-      let column : List ℕ = column_bytes (get_or ims k d) (truncated_to (get_or ims k d) (get_or ns k e)) in
-      let same : length (take k ns) ≡ length (take k ims) =
-      length-take-le k ns (omega arith) ∙ sym (length-take-le k ims (omega arith)) in
-      let long-so-far : length done-so-far ≡ body_size (take k ims) = bytes_length (take k ims) (take k ns) same in
-      let place : start ≡ 0 + length done-so-far = omega arith in
-      let long : length column ≡ column_size (get_or ims k d) = column_length_lem (get_or ims k d) (truncated_to (get_or ims k d) (get_or ns k e)) in
-      part_written now start (start + size - start) after (omega arith)
-      ∙ ap₂ (λ (b : List ℕ) (p : ℕ). written b p column) before place
-      ∙ written_next first 0 done-so-far column (omega (arith, room_at ims k d here))
-      ∙ ap (written first 0) (sym (bytes_next ims ns k d e here (omega arith)))
-      ∙ ap (λ (i : ℕ). written first 0 (bytes_of (take i ims) (take i ns))) (sym (add-one k))
-
--- behind the last column the body is the bytes
-pub columns_all :
-    {ims : List Image} {ns : List Number} (k : ℕ) (first : List ℕ) {now : List ℕ}
+-- so the column that is next packs, and those behind it
+pub next_packs :
+    {ims later_ims : List Image} {ns later_ns : List Number} {im : Image} {n : Number}
     → AllPack ims ns
-    → length first ≡ body_size ims
-    → length ims ≤ k
-    → now ≡ written first 0 (bytes_of (take k ims) (take k ns))
-    → pack_columns 0 ims ns ≡ done now
-columns_all {ims} {ns} k first {now} packs room all before =
-    let many = packs_length packs in
-    let whole : written first 0 (bytes_of (take k ims) (take k ns)) ≡ written first 0 (bytes_of ims ns) =
-    λ i. written first 0 (bytes_of (take_all k ims all i) (take_all k ns (omega arith) i)) in
-    packs_columns 0 packs ∙ ap {B = Answer (List ℕ)} done (sym (before ∙ whole ∙ written_all first (bytes_of ims ns) (room ∙ sym (bytes_length ims ns many))))
+    → ims ≡ im ∷ later_ims
+    → ns ≡ n ∷ later_ns
+    → PacksUnder im n × AllPack later_ims later_ns
+next_packs packs images numbers = first_packs (rw numbers at (rw images at packs))
 
--- and the place behind it
+-- where a list that packs has no image or no number left, it has neither
+pub none_packs : {ims : List Image} {ns : List Number} → AllPack ims ns → (length ims ≡ 0) ⊎ (length ns ≡ 0) → (ims ≡ []) × (ns ≡ [])
+none_packs none h = (refl, refl)
+none_packs (one {im} {n} {ims} {ns} p ps) h =
+    ⊎_elim (λ (z : length (im ∷ ims) ≡ 0). absurd (omega arith)) (λ (z : length (n ∷ ns) ≡ 0). absurd (omega arith)) h
+
+-- The loop that writes the columns: those that are left pack and fill what is left of the body; behind what is written they make the whole.
+pub record Writing (all : List ℕ) (ims : List Image) (ns : List Number) (start : ℕ) (body : List ℕ) : Type 0 where
+  pub packs : AllPack ims ns
+  pub room : start + body_size ims ≡ length body
+  pub whole : take start body ++ bytes_of ims ns ≡ all
+
+-- before the first column
+pub writing_starts :
+    {ims left_ims : List Image} {ns left_ns : List Number} {body : List ℕ}
+    → AllPack ims ns
+    → length body ≡ body_size ims
+    → left_ims ≡ ims
+    → left_ns ≡ ns
+    → Writing (bytes_of ims ns) left_ims left_ns 0 body
+writing_starts packs sized images numbers = rw (images, numbers) (record { packs = packs; room = omega arith; whole = refl })
+
+module _ {all : List ℕ} {ims later_ims : List Image} {ns later_ns : List Number} {start : ℕ} {body : List ℕ} {im : Image} {n : Number}
+    (w : Writing all ims ns start body) (images : ims ≡ im ∷ later_ims) (numbers : ns ≡ n ∷ later_ns) where
+  -- the next number fits its image
+  pub next_fits : Fit im n
+  next_fits = packs_fit (next_packs w.packs images numbers).0
+
+  -- and its column is inside the body
+  pub next_room : (start + column_size im) + body_size later_ims ≡ length body
+  unfolding body_size
+  next_room = omega (arith, ap body_size images, w.room)
+
+  -- one more column is written
+  pub writing_turns :
+      {size : ℕ} {part : List ℕ}
+      → size ≡ column_size im
+      → part ≡ column_bytes im (truncated_to im n)
+      → Writing all later_ims later_ns (start + size) (put_mid start (start + size - start) body part)
+  unfolding bytes_of written
+  writing_turns {size} {part} sized made =
+      let column : List ℕ = column_bytes im (truncated_to im n) in
+      let long : length column ≡ column_size im = column_length_lem im (truncated_to im n) in
+      let now : put_mid start (start + size - start) body part ≡ written body start column = part_written body start (start + size - start) made (omega arith) in
+      let front : take (start + size) (written body start column) ≡ take start body ++ column =
+      take_at (take start body ++ column) (drop (start + length column) body) (start + size)
+      (length-append (take start body) column ∙ omega (arith, length-take-le start body (omega (arith, next_room)))) in
+      rw now
+      (record {
+        packs = (next_packs w.packs images numbers).1;
+        room = omega (arith, next_room, written_length body start column (omega (arith, next_room)));
+        whole =
+            ap (λ (l : List ℕ). l ++ bytes_of later_ims later_ns) front
+            ∙ append_assoc (take start body) column (bytes_of later_ims later_ns)
+            ∙ ap₂ (λ (a : List Image) (b : List Number). take start body ++ bytes_of a b) (sym images) (sym numbers)
+            ∙ w.whole;
+      })
+
+-- behind the last column the body is the whole
+pub writing_ends :
+    {all : List ℕ} {ims : List Image} {ns : List Number} {start : ℕ} {body : List ℕ}
+    → Writing all ims ns start body
+    → (length ims ≡ 0) ⊎ (length ns ≡ 0)
+    → all ≡ body
+unfolding bytes_of body_size
+writing_ends {all} {ims} {ns} {start} {body} w end =
+    let left = none_packs w.packs end in
+    let none : bytes_of ims ns ≡ [] = ap₂ bytes_of left.0 left.1 in
+    sym w.whole
+    ∙ ap (λ (l : List ℕ). take start body ++ l) none
+    ∙ append-nil (take start body)
+    ∙ take_all start body (omega (arith, w.room, ap body_size left.0))
+
+-- the size of the columns up to a place, one more among them
 pub columns_place : (ims : List Image) (k : ℕ) (d : Image) {start size : ℕ} → k < length ims → start ≡ body_size (take k ims) → size ≡ column_size (get_or ims k d) → start + size ≡ body_size (take (k + 1) ims)
 columns_place ims k d h before sized = omega (arith, size_next ims k d h, ap (λ (i : ℕ). body_size (take i ims)) (add-one k))
 

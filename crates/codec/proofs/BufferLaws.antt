@@ -1,10 +1,10 @@
 -- Laws of a buffer that bytes are written into. Assumes nothing.
 use Prim.Native.Nat.{ℕ, ◌+◌, ◌<◌, ◌≤◌}
 use mathlib.Core.Path.{◌≡◌, refl, ap, ap₂, sym, ◌∙◌}
-use mathlib.Core.List.{List, [], ◌∷◌, ◌++◌, append_assoc, append-nil}
+use mathlib.Core.List.{List, [], ◌∷◌, ◌++◌, append_assoc}
 use native.Mathlib.Omega.{arith}
 use native.Mathlib.Nat.{zero-add}
-use lib.ListN.{length, take, drop, get_or, set, length-append, length-drop, drop_of_length-le}
+use lib.ListN.{length, take, drop, get_or, set, length-append, length-drop}
 use lib.Seq.{paste, take_at, drop-drop, drop-append-add, length-take-le, take-length}
 use borrow.Rule.Slice.PartMut.{put_mid}
 use Rattle.std.proofs.lemmas.Slice.{put_mid-paste}
@@ -36,13 +36,6 @@ written_none b = refl
 pub written_stored : (b s : List ℕ) → written b 0 s ≡ stored_in (done s) b
 unfolding written stored_in
 written_stored b s = ap (λ (k : ℕ). s ++ drop k b) (zero-add (length s))
-
--- over the whole buffer
-pub written_all : (b s : List ℕ) → length b ≡ length s → written b 0 s ≡ s
-unfolding written
-written_all b s h =
-    let none : drop (0 + length s) b ≡ [] = drop_of_length-le b (omega arith) in
-    rw none (append-nil s)
 
 -- what is written is refused as its length is
 pub sized_refused_back : (a : Answer (List ℕ)) {number place : ℕ} → refused number place ≡ sized a → a ≡ refused number place

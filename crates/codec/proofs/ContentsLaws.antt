@@ -1,29 +1,25 @@
 -- Laws of contents: what reading one tells. Assumes nothing.
 use Prim.Native.Nat.{ℕ, zero, suc, ◌+◌, ◌-◌, ◌*◌, ◌<◌, ◌≤◌}
-use mathlib.Core.Path.{◌≡◌, refl, ap, sym, subst, ◌∙◌}
+use mathlib.Core.Path.{◌≡◌, refl, ap, ap₂, sym, subst, ◌∙◌}
 use mathlib.Core.Bool.{Bool, true, false, ◌&&◌}
 use mathlib.Core.List.{List, [], ◌∷◌, ◌++◌, append_assoc, append-nil}
 use native.Mathlib.Omega.{arith}
 use native.Mathlib.Numerals.{add-one}
 use lib.ListN.{length, take, drop, get_or, length-append, length-drop}
-use lib.Seq.{drop-drop, get_or-drop}
 use lib.Dec.{ltb, leb, eqb}
-use borrow.Author.Tests.{lt-ltb, le-ltb, ltb-false, leb-true, le-leb, lt-leb, eqb-true, eq-eqb, ne_eqb}
+use borrow.Author.Tests.{le-ltb, ltb-false, leb-true, le-leb, eqb-true, eq-eqb, ne_eqb}
 use Rattle.decimal.specs.declared.image.Sign.{Sign}
 use Rattle.decimal.specs.declared.image.Sign.TheVariants.{Unsigned, Plus, Minus}
 use Rattle.decimal.specs.declared.image.Image.{Image}
-use Rattle.std.specs.Prelude.{Result, Ok, Err, IfOk}
-use Rattle.decimal.specs.declared.refusal.Refusal.{Refusal}
-use Rattle.decimal.specs.Answer.{Answer, done, refused, ◌then◌, pick, mapped, meaning}
+use Rattle.decimal.specs.Answer.{Answer, done, refused, ◌then◌, pick, mapped}
 use Rattle.decimal.specs.Image.{read_image}
 use Rattle.decimal.proofs.BoolLaws.{and_true}
 use Rattle.decimal.proofs.ImageLaws.{read_done}
 use Rattle.decimal.proofs.AnswerLaws.{never_done, done_same, then_done, mapped_back, mapped_done}
 use Rattle.codec.specs.declared.contents.Contents.{Contents}
 use Rattle.codec.specs.Lists.{max_columns}
-use Rattle.codec.proofs.ListLaws.{behind_place}
 use Rattle.codec.specs.Columns.{sign_count, exponent_count, half_count, pad_count, column_size, body_size, Checked, AllChecked, none, more}
-use Rattle.codec.specs.Contents.{Table, read_column, column_length, read_columns, columns_length, read_contents, read_alone, contents_of}
+use Rattle.codec.specs.Contents.{Table, read_column, column_length, read_columns, columns_length, read_contents, read_alone, contents_of, check_count}
 
 -- the image of each column is one of 1 to 13 # signs
 pub checked_at : {ims : List Image} → AllChecked ims → (i : ℕ) (d : Image) → i < length ims → Checked (get_or ims i d)
@@ -41,19 +37,8 @@ column_checked place (n ∷ bytes) {im} h = go (ltb (length bytes) n) h
     go true e = never_done e
     go false e = let r = read_done place (take n bytes) im e in record { nonempty = r.0.nonempty; fits = r.1 }
 
--- no column begins where there is no byte
-pub column_none : (column : ℕ) (bytes : List ℕ) → length bytes ≡ 0 → read_column column bytes ≡ refused 11 0
-unfolding read_column
-column_none column [] h = refl
-column_none column (n ∷ bytes) h = absurd (omega arith)
-
 module _ (column n : ℕ) (bytes : List ℕ) where
-  -- bytes may end inside a column
-  pub column_short : length bytes < n → read_column column (n ∷ bytes) ≡ refused 11 0
-  unfolding read_column
-  column_short h = rw (lt-ltb (length bytes) n h)
-
-  -- else its image is read
+  -- the image of a column that is all there is read
   pub column_read : n ≤ length bytes → read_column column (n ∷ bytes) ≡ read_image column (take n bytes)
   unfolding read_column
   column_read h = rw (le-ltb (length bytes) n h)
@@ -251,55 +236,16 @@ columns_refused :
 unfolding read_columns in_front ◌then◌
 columns_refused left column bytes ims h = rw h
 
--- so it does where the code's answer is no refusal
-pub column_fits : (r : Result Image Refusal) (column : ℕ) (bytes : List ℕ) → meaning r ≡ read_column column bytes → IfOk r (λ image. column_length bytes ≤ length bytes)
-column_fits (Ok im) column bytes h = column_inside column bytes (sym h)
-column_fits (Err e) column bytes h = tt
-
--- how many bytes a column takes, by its length byte
-length_byte : (bytes : List ℕ) → 0 < length bytes → column_length bytes ≡ 1 + get_or bytes 0 0
-unfolding column_length
-length_byte [] h = absurd (omega arith)
-length_byte (n ∷ bytes) h = omega arith
-
--- where a column is read there is a byte
-column_begins : (column : ℕ) (bytes : List ℕ) {im : Image} → read_column column bytes ≡ done im → 0 < length bytes
-unfolding read_column
-column_begins column [] h = never_done h
-column_begins column (n ∷ bytes) h = omega arith
-
--- the bytes that the code lends are those behind the place
-pub column_lent :
-    (place column : ℕ) (bytes : List ℕ) {a : Answer Image} → a ≡ read_column column (take (length bytes - place) (drop place bytes)) → read_column column (drop place bytes) ≡ a
-column_lent place column bytes e = sym (e ∙ ap (read_column column) (behind_place place bytes))
-
-module _ (place column : ℕ) (bytes : List ℕ) {im : Image} (read : read_column column (drop place bytes) ≡ done im) where
-  -- so there is at its place
-  pub byte_here : place < length bytes
-  byte_here = omega (arith, column_begins column (drop place bytes) read, length-drop place bytes)
-
-  -- which says where the next column stands
-  pub column_behind : place + (1 + get_or bytes place 0) ≡ place + column_length (drop place bytes)
-  column_behind =
-      let byte : get_or (drop place bytes) 0 0 ≡ get_or bytes place 0 = get_or-drop place bytes 0 0 ∙ ap (λ (i : ℕ). get_or bytes i 0) (omega arith) in
-      ap (λ (n : ℕ). place + (1 + n)) (sym byte)
-      ∙ ap (λ (n : ℕ). place + n) (sym (length_byte (drop place bytes) (column_begins column (drop place bytes) read)))
-
-  -- the next one's is inside the bytes
-  pub behind_inside : place + (1 + get_or bytes place 0) ≤ length bytes
-  behind_inside = omega (arith, byte_here, column_behind, column_inside column (drop place bytes) read, length-drop place bytes)
-
 -- The loop that reads the columns: the images read, with those that the rest gives behind them, are those of the whole.
-pub record Reading (bytes : List ℕ) (count : ℕ) (ims : List Image) (place body column : ℕ) : Type 0 where
+pub record Reading (bytes : List ℕ) (count : ℕ) (ims : List Image) (body : ℕ) (rest : List ℕ) (column : ℕ) : Type 0 where
   pub as_many : length ims ≡ column
   pub size : body ≡ body_size ims
   pub few : body ≤ 9 * column
-  pub within : place ≤ length bytes
-  pub left : in_front ims (read_columns (count - column) column (drop place bytes)) ≡ read_columns count 0 bytes
-  pub lengths : place + columns_length (count - column) (drop place bytes) ≡ columns_length count bytes
+  pub left : in_front ims (read_columns (count - column) column rest) ≡ read_columns count 0 bytes
+  pub lengths : length rest + columns_length count bytes ≡ length bytes + columns_length (count - column) rest
 
 -- before the first column
-pub reading_starts : (bytes : List ℕ) (count : ℕ) → Reading bytes count [] 0 0 0
+pub reading_starts : (bytes : List ℕ) (count : ℕ) → Reading bytes count [] 0 bytes 0
 unfolding body_size
 reading_starts bytes count =
     let all : count - 0 ≡ count = omega arith in
@@ -307,74 +253,67 @@ reading_starts bytes count =
       as_many = refl;
       size = refl;
       few = omega arith;
-      within = omega arith;
       left = front_none _ ∙ ap (λ (k : ℕ). read_columns k 0 bytes) all;
-      lengths = omega (arith, ap (λ (k : ℕ). columns_length k bytes) all);
+      lengths = ap (λ (k : ℕ). length bytes + columns_length k bytes) (sym all);
     }
 
-module _ {bytes : List ℕ} {count : ℕ} {ims : List Image} {place body column : ℕ} (r : Reading bytes count ims place body column) where
+module _ {bytes : List ℕ} {count : ℕ} {ims : List Image} {body : ℕ} {rest : List ℕ} {column : ℕ} (r : Reading bytes count ims body rest column) where
   -- one column further
   pub reading_turns :
-      {im : Image} {images : List Image} {next size : ℕ}
+      {im : Image} {images : List Image} {behind : List ℕ} {size : ℕ}
       → column < count
-      → read_column column (drop place bytes) ≡ done im
+      → read_column column rest ≡ done im
       → images ≡ ims ++ im ∷ []
-      → next ≡ place + column_length (drop place bytes)
+      → behind ≡ drop (column_length rest) rest
       → size ≡ column_size im
-      → Reading bytes count images next (body + size) (column + 1)
+      → Reading bytes count images (body + size) behind (column + 1)
   unfolding columns_length
-  reading_turns {im} {images} {next} {size} h e pushed behind z =
-      let l = drop place bytes in
+  reading_turns {im} {images} {behind} {size} h e pushed dropped z =
       let left-now : count - column ≡ suc (count - (column + 1)) = omega arith in
       let left-then = count - (column + 1) in
-      let rest : drop (column_length l) l ≡ drop next bytes = drop-drop (column_length l) place bytes ∙ ap (λ (k : ℕ). drop k bytes) (sym behind) in
-      let step : columns_length (count - column) l ≡ column_length l + columns_length left-then (drop next bytes) =
-      ap (λ (k : ℕ). columns_length k l) left-now ∙ ap (λ (k : List ℕ). column_length l + columns_length left-then k) rest in
-      let some = column_few (column_checked column l e) in
+      let step : columns_length (count - column) rest ≡ column_length rest + columns_length left-then behind =
+      ap (λ (k : ℕ). columns_length k rest) left-now ∙ ap (λ (k : List ℕ). column_length rest + columns_length left-then k) (sym dropped) in
+      let some = column_few (column_checked column rest e) in
       rw pushed
       (record {
         as_many = length-append ims (im ∷ []) ∙ ap (λ (k : ℕ). k + 1) r.as_many;
         size = omega (arith, r.size, body_more ims im);
         few = omega (arith, r.few);
-        within = omega (arith, column_inside column l e, length-drop place bytes, r.within);
         left =
-            ap (λ (k : ℕ). in_front (ims ++ im ∷ []) (read_columns left-then k (drop next bytes))) (add-one column)
-            ∙ ap (λ (k : List ℕ). in_front (ims ++ im ∷ []) (read_columns left-then (suc column) k)) (sym rest)
-            ∙ sym (columns_turn left-then column l ims e)
-            ∙ ap (λ (k : ℕ). in_front ims (read_columns k column l)) (sym left-now)
+            ap (λ (k : ℕ). in_front (ims ++ im ∷ []) (read_columns left-then k behind)) (add-one column)
+            ∙ ap (λ (k : List ℕ). in_front (ims ++ im ∷ []) (read_columns left-then (suc column) k)) dropped
+            ∙ sym (columns_turn left-then column rest ims e)
+            ∙ ap (λ (k : ℕ). in_front ims (read_columns k column rest)) (sym left-now)
             ∙ r.left;
-        lengths = omega (arith, behind, r.lengths);
+        lengths = omega (arith, step, r.lengths, column_inside column rest e, ap length dropped, length-drop (column_length rest) rest);
       })
 
   -- a column is refused
   pub reading_refused :
-      {number at_place : ℕ}
-      → column < count
-      → read_column column (drop place bytes) ≡ refused number at_place
-      → read_columns count 0 bytes ≡ refused number at_place
+      {number place : ℕ} → column < count → read_column column rest ≡ refused number place → read_columns count 0 bytes ≡ refused number place
   reading_refused h e =
-      let l = drop place bytes in
       let left-now : count - column ≡ suc (count - (column + 1)) = omega arith in
       sym r.left
-      ∙ ap (λ (k : ℕ). in_front ims (read_columns k column l)) left-now
-      ∙ columns_refused (count - (column + 1)) column l ims e
+      ∙ ap (λ (k : ℕ). in_front ims (read_columns k column rest)) left-now
+      ∙ columns_refused (count - (column + 1)) column rest ims e
 
-  -- behind the last column
-  pub reading_ends : count ≤ column → read_columns count 0 bytes ≡ done ims
-  unfolding read_columns in_front
-  reading_ends h =
-      let none_left : count - column ≡ 0 = omega arith in
-      sym r.left
-      ∙ ap (λ (k : ℕ). in_front ims (read_columns k column (drop place bytes))) none_left
-      ∙ ap {B = Answer (List Image)} done (append-nil ims)
+  module _ (end : count ≤ column) where
+    -- behind the last column
+    pub reading_ends : read_columns count 0 bytes ≡ done ims
+    unfolding read_columns in_front
+    reading_ends =
+        let none_left : count - column ≡ 0 = omega arith in
+        sym r.left
+        ∙ ap (λ (k : ℕ). in_front ims (read_columns k column rest)) none_left
+        ∙ ap {B = Answer (List Image)} done (append-nil ims)
 
-  -- and the place is the length of the contents
-  pub reading_length : count ≤ column → place ≡ columns_length count bytes
-  unfolding columns_length
-  reading_length h =
-      let none_left : count - column ≡ 0 = omega arith in
-      let none-long : columns_length (count - column) (drop place bytes) ≡ 0 = ap (λ (k : ℕ). columns_length k (drop place bytes)) none_left in
-      omega (arith, r.lengths)
+    -- what is left and the length of the contents are the whole
+    pub reading_length : length rest + columns_length count bytes ≡ length bytes
+    unfolding columns_length
+    reading_length =
+        let none_left : count - column ≡ 0 = omega arith in
+        let none-long : columns_length (count - column) rest ≡ 0 = ap (λ (k : ℕ). columns_length k rest) none_left in
+        omega (arith, r.lengths)
 
 -- no byte is no contents
 pub contents_none : (bytes : List ℕ) → length bytes ≡ 0 → read_contents bytes ≡ refused 11 0
@@ -382,19 +321,35 @@ unfolding read_contents
 contents_none [] h = refl
 contents_none (b ∷ bytes) h = absurd (omega arith)
 
-module _ (count : ℕ) (bytes : List ℕ) where
-  -- no column
-  pub contents_zero : count < 1 → read_contents (count ∷ bytes) ≡ refused 10 0
-  unfolding read_contents
-  contents_zero l = rw (lt-leb 1 count l)
+-- a count that can be is 1 to 16
+pub count_within : (count : ℕ) → done tt ≡ check_count count → (1 ≤ count) × (count ≤ max_columns)
+unfolding check_count
+count_within count h = go (leb 1 count && leb count max_columns) refl h
+  where
+    go : (b : Bool) → (leb 1 count && leb count max_columns) ≡ b → ◌≡◌ {A = Answer (Unit {0})} (done tt) (pick b (done tt) (refused 10 0)) → (1 ≤ count) × (count ≤ max_columns)
+    go true t e = let both = and_true (leb 1 count) (leb count max_columns) t in (leb-true 1 count both.0, leb-true count max_columns both.1)
+    go false t e = never_done (sym e)
 
-  -- too many columns
-  pub contents_many : max_columns < count → read_contents (count ∷ bytes) ≡ refused 10 0
+-- one that cannot be is refused ahead of what follows
+pub count_refused :
+    {A : Type 0} (count : ℕ) (behind : Answer A) {number place : ℕ}
+    → refused number place ≡ check_count count
+    → pick (leb 1 count && leb count max_columns) behind (refused 10 0) ≡ refused number place
+unfolding check_count
+count_refused {A} count behind {number} {place} h = go (leb 1 count && leb count max_columns) h
+  where
+    go : (b : Bool) → ◌≡◌ {A = Answer (Unit {0})} (refused number place) (pick b (done tt) (refused 10 0)) → pick b behind (refused 10 0) ≡ refused number place
+    go true e = never_done e
+    go false e = let same_number : 10 ≡ number = cc in let same_place : 0 ≡ place = cc in ap₂ refused same_number same_place
+
+module _ (count : ℕ) (bytes : List ℕ) where
+  -- the count decides first
+  pub contents_counted : {number place : ℕ} → refused number place ≡ check_count count → read_contents (count ∷ bytes) ≡ refused number place
   unfolding read_contents
-  contents_many l = let low : 1 ≤ count = omega arith in rw (le-leb 1 count low, lt-leb count max_columns l)
+  contents_counted h = count_refused count _ h
 
   module _ (low : 1 ≤ count) (high : count ≤ max_columns) where
-    -- else the columns decide
+    -- then the columns do
     contents_read :
         {ims : List Image} → read_columns count 0 bytes ≡ done ims → read_contents (count ∷ bytes) ≡ done (record { images = ims; size = suc (columns_length count bytes) })
     unfolding read_contents ◌then◌
@@ -407,12 +362,13 @@ module _ (count : ℕ) (bytes : List ℕ) where
 
     -- what the loop has read is the contents
     pub contents_made :
-        {ims : List Image} {place body column : ℕ}
-        → Reading bytes count ims place body column
+        {ims : List Image} {body column size : ℕ} {rest : List ℕ}
+        → Reading bytes count ims body rest column
         → count ≤ column
-        → ◌≡◌ {A = Answer Contents} (done (record { images = record { items = ims }; size = 1 + place; body = body })) (mapped contents_of (read_contents (count ∷ bytes)))
-    contents_made {ims} {place} {body} {column} r h =
-        let size : 1 + place ≡ suc (columns_length count bytes) = omega (arith, reading_length r h) in
-        let made : ◌≡◌ {A = Contents} (record { images = record { items = ims }; size = 1 + place; body = body }) (contents_of (record { images = ims; size = suc (columns_length count bytes) })) =
-        λ i. record { images = record { items = ims }; size = size i; body = r.size i } in
+        → size + length rest ≡ suc (length bytes)
+        → ◌≡◌ {A = Answer Contents} (done (record { images = record { items = ims }; size = size; body = body })) (mapped contents_of (read_contents (count ∷ bytes)))
+    contents_made {ims} {body} {column} {size} {rest} r h fills =
+        let same : size ≡ suc (columns_length count bytes) = omega (arith, reading_length r h, fills) in
+        let made : ◌≡◌ {A = Contents} (record { images = record { items = ims }; size = size; body = body }) (contents_of (record { images = ims; size = suc (columns_length count bytes) })) =
+        λ i. record { images = record { items = ims }; size = same i; body = r.size i } in
         ap {B = Answer Contents} done made ∙ sym (mapped_done contents_of (contents_read (reading_ends r h)))

@@ -30,6 +30,7 @@ use Rattle.codec.specs.Contents.{Table, read_alone}
 use Rattle.codec.specs.Halves.{pack_halves}
 use Rattle.codec.specs.Packing.{sign_halves, exponent_halves, column_halves, column_bytes, pack_columns, pack_list, body_of}
 use Rattle.codec.specs.Order.{UnsignedFixed, AllUnsignedFixed, magnitude_in, truncated_magnitudes, FirstSmaller}
+use Rattle.codec.proofs.BodyLaws.{pack_view}
 use Rattle.codec.proofs.HalfLaws.{packed_order, packed_same_length, column_halves_below, column_halves_length}
 
 -- The order of lists.
@@ -343,25 +344,6 @@ unfolding comes_before
 compared_none =
     record { before = ((λ h. absurd (not_both refl h)), (λ h. absurd (first_none h))); same = ((λ _. refl), (λ _. refl)) }
 
--- the parts of a body
-record Parts (place : ℕ) (im : Image) (ims : List Image) (n : Number) (ns : List Number) (a : List ℕ) : Type 0 where
-  pub to : Truncated
-  pub packed : packed_truncation place im n ≡ done to
-  pub rest : List ℕ
-  pub others : pack_columns (suc place) ims ns ≡ done rest
-  pub joined : column_bytes im to ++ rest ≡ a
-
--- a body that is packed has them
-parts_of :
-    (place : ℕ) (im : Image) (ims : List Image) (n : Number) (ns : List Number) {a : List ℕ}
-    → pack_columns place (im ∷ ims) (n ∷ ns) ≡ done a
-    → Parts place im ims n ns a
-unfolding pack_columns
-parts_of place im ims n ns {a} h =
-    let first = then_done (packed_truncation place im n) _ h in
-    let second = then_done (pack_columns (suc place) ims ns) _ first.second in
-    record { to = first.value; packed = first.first; rest = second.value; others = second.first; joined = done_same second.second }
-
 -- a list that packs has the columns' length
 listed :
     (ims : List Image) (ns : List Number) {a : List ℕ}
@@ -392,10 +374,10 @@ compared_columns AllUnsignedFixed.none place ms ns {a} {b} p q h g =
 compared_columns (AllUnsignedFixed.more kind kinds) place [] ns p q h g = absurd (omega arith)
 compared_columns (AllUnsignedFixed.more kind kinds) place (m ∷ ms) [] p q h g = absurd (omega arith)
 compared_columns (AllUnsignedFixed.more {im} {ims} kind kinds) place (m ∷ ms) (n ∷ ns) {a} {b} p q h g =
-    let c = parts_of place im ims m ms h in
-    let d = parts_of place im ims n ns g in
+    let c = pack_view place im ims m ms h in
+    let d = pack_view place im ims n ns g in
     let rest = compared_columns kinds (suc place) ms ns (suc_inj p) (suc_inj q) c.others d.others in
-    let both = compared_column im kind m n c.to d.to (column_of im kind place m c.packed) (column_of im kind place n d.packed) rest in
+    let both = compared_column im kind m n c.to d.to (column_of im kind place m c.first) (column_of im kind place n d.first) rest in
     compared_paths c.joined d.joined both
 
 -- two lists that pack

@@ -1,12 +1,12 @@
 -- Laws of when a number packs under an image, and of lists of which each number does. Assumes nothing.
-use Prim.Native.Nat.{ℕ, zero, suc, ◌<◌, ◌≤◌}
+use Prim.Native.Nat.{ℕ, suc, ◌<◌, ◌≤◌}
 use mathlib.Core.Path.{◌≡◌, refl, ap, subst}
 use mathlib.Core.List.{List}
 use mathlib.Core.Bool.{Bool, true, false}
 use mathlib.Core.Logic.{⊎_elim}
 use native.Mathlib.Omega.{arith}
 use lib.Dec.{eqb}
-use lib.ListN.{length, get_or}
+use lib.ListN.{length}
 use Rattle.decimal.specs.declared.image.Image.{Image}
 use Rattle.decimal.specs.declared.number.Number.{Number}
 use Rattle.decimal.specs.Answer.{Answer, done, refused, pick}
@@ -104,12 +104,6 @@ pack_conditions {im} {n} p =
         let d = p.truncated 0 in
         let z : ◌≡◌ {A = ℕ} 0 1 = cc in
         absurd (omega arith)
-
--- each number of a list that packs does
-pub packs_at : {ims : List Image} {ns : List Number} → AllPack ims ns → (i : ℕ) (d : Image) (e : Number) → i < length ims → PacksUnder (get_or ims i d) (get_or ns i e)
-packs_at none i d e h = absurd (omega arith)
-packs_at (one p ps) zero d e h = p
-packs_at (one p ps) (suc i) d e h = packs_at ps i d e (omega arith)
 
 -- a list that packs has one number per column
 pub packs_length : {ims : List Image} {ns : List Number} → AllPack ims ns → length ns ≡ length ims

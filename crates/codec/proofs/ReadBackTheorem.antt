@@ -28,6 +28,7 @@ use Rattle.codec.specs.Packing.{column_bytes, pack_columns, pack_list, body_of}
 use Rattle.codec.specs.Unpacking.{all_digits, all_zero, sign_part, digit_part, exponent_part, pad_part, said_by, breaks_rules, as_half, parts_number}
 use Rattle.codec.specs.Unpacking.{halves_number, unpack_column, unpack_columns, unpack_body, unpacking}
 use Rattle.codec.specs.Order.{Truncations, Bytes}
+use Rattle.codec.proofs.BodyLaws.{pack_view}
 use Rattle.codec.proofs.ContentsLaws.{alone_checked}
 use Rattle.codec.proofs.HalfLaws.{column_length_lem}
 use Rattle.codec.proofs.ColumnTheorem.{column_accepts, ColumnBack, column_round}
@@ -54,25 +55,6 @@ pack_step :
     → pack_columns column (im ∷ ims) (n ∷ ns) ≡ done (column_bytes im t ++ rest)
 unfolding pack_columns ◌then◌
 pack_step column im ims n ns p q = rw (p, q)
-
--- and the other way
-record PackStep (column : ℕ) (im : Image) (ims : List Image) (n : Number) (ns : List Number) (body : List ℕ) : Type 0 where
-  pub to : Truncated
-  pub rest : List ℕ
-  pub first : packed_truncation column im n ≡ done to
-  pub others : pack_columns (suc column) ims ns ≡ done rest
-  pub joined : column_bytes im to ++ rest ≡ body
-
--- what packed columns tell of the first
-pack_view :
-    (column : ℕ) (im : Image) (ims : List Image) (n : Number) (ns : List Number) {body : List ℕ}
-    → pack_columns column (im ∷ ims) (n ∷ ns) ≡ done body
-    → PackStep column im ims n ns body
-unfolding pack_columns
-pack_view column im ims n ns {body} h =
-    let one = then_done (packed_truncation column im n) (λ t. (pack_columns (suc column) ims ns then λ rest. done (column_bytes im t ++ rest))) h in
-    let two = then_done (pack_columns (suc column) ims ns) (λ rest. done (column_bytes im one.value ++ rest)) one.second in
-    record { to = one.value; rest = two.value; first = one.first; others = two.first; joined = done_same two.second }
 
 -- one column more is read
 unpack_step :

@@ -1,15 +1,14 @@
 -- Laws of what packing leaves of its numbers, column by column. Assumes nothing.
-use Prim.Native.Nat.{ℕ, zero, suc, ◌+◌, ◌<◌, ◌≤◌}
+use Prim.Native.Nat.{ℕ, suc, ◌+◌}
 use mathlib.Core.Path.{◌≡◌, refl, ap, ap₂, sym, ◌∙◌}
-use mathlib.Core.List.{List, [], ◌∷◌, ◌++◌}
+use mathlib.Core.List.{List, [], ◌∷◌, ◌++◌, append_assoc, append-nil}
 use native.Mathlib.Omega.{arith}
-use native.Mathlib.Numerals.{add-one}
-use lib.ListN.{length, take, get_or}
-use Rattle.std.proofs.lemmas.List.{take_all}
+use lib.ListN.{length, length-append}
+use Rattle.std.proofs.Common.{◌⊎◌}
 use Rattle.decimal.specs.declared.image.Image.{Image}
 use Rattle.decimal.specs.declared.number.Number.{Number}
 use Rattle.decimal.specs.declared.remainder.Remainder.{Remainder}
-use Rattle.decimal.specs.Answer.{Answer, done, refused, ◌then◌}
+use Rattle.decimal.specs.Answer.{done, refused, ◌then◌}
 use Rattle.decimal.specs.Truncation.{truncated_to}
 use Rattle.decimal.specs.Remainder.{cut_off, remainder}
 use Rattle.decimal.proofs.AnswerLaws.{done_same, then_next, then_refused}
@@ -18,8 +17,8 @@ use Rattle.codec.specs.Contents.{Table, read_alone}
 use Rattle.codec.specs.Packing.{pack_list, body_of, packing, AllPack}
 use Rattle.codec.specs.Packing.AllPack.{none, one}
 use Rattle.codec.specs.Remainders.{cut_columns, packing_remainders}
-use Rattle.codec.proofs.PackLaws.{packed_anywhere, packs_length}
-use Rattle.codec.proofs.BodyLaws.{packed_only, fits_at}
+use Rattle.codec.proofs.PackLaws.{packed_anywhere, packs_fit, packs_length}
+use Rattle.codec.proofs.BodyLaws.{packed_only, next_packs, none_packs}
 use Rattle.codec.proofs.RoomTheorem.{packing_body}
 
 -- Column by column.
@@ -43,50 +42,52 @@ left_length [] ns e = refl
 left_length (im ∷ ims) [] e = absurd (omega arith)
 left_length (im ∷ ims) (n ∷ ns) e = ap suc (left_length ims ns (omega arith))
 
--- the remainder of one column more
-pub left_next :
-    (ims : List Image) (ns : List Number) (k : ℕ) (d : Image) (e : Number)
-    → k < length ims
-    → k < length ns
-    → left_of (take (suc k) ims) (take (suc k) ns)
-    ≡ left_of (take k ims) (take k ns) ++ cut_off (get_or ims k d) (get_or ns k e) (truncated_to (get_or ims k d) (get_or ns k e)) ∷ []
-unfolding left_of
-left_next [] ns k d e h g = absurd (omega arith)
-left_next (im ∷ ims) [] k d e h g = absurd (omega arith)
-left_next (im ∷ ims) (n ∷ ns) zero d e h g = refl
-left_next (im ∷ ims) (n ∷ ns) (suc k) d e h g =
-    ap (λ (l : List Remainder). cut_off im n (truncated_to im n) ∷ l) (left_next ims ns k d e (omega arith) (omega arith))
+-- The loop that finds them: of the columns that are left each packs, and what it leaves comes behind what is found.
+pub record Leaving (all : List Remainder) (ims : List Image) (ns : List Number) (found : List Remainder) : Type 0 where
+  pub packs : AllPack ims ns
+  pub room : length found + length ims ≡ length all
+  pub whole : found ++ left_of ims ns ≡ all
 
--- The loop that finds them.
+-- before the first column
+pub leaving_starts :
+    {ims left_ims : List Image} {ns left_ns : List Number} → AllPack ims ns → left_ims ≡ ims → left_ns ≡ ns → Leaving (left_of ims ns) left_ims left_ns []
+leaving_starts {ims} {left_ims} {ns} packs images numbers =
+    rw (images, numbers) (record { packs = packs; room = omega (arith, left_length ims ns (packs_length packs)); whole = refl })
 
-module _ (ims : List Image) (ns : List Number) (packs : AllPack ims ns) (k : ℕ) (d : Image) (e : Number) (here : k < length ims) where
-  -- what truncation leaves of a column's number is found
-  pub left_at : remainder k (get_or ims k d) (get_or ns k e) ≡ done (cut_off (get_or ims k d) (get_or ns k e) (truncated_to (get_or ims k d) (get_or ns k e)))
-  left_at = remainder_fit (get_or ims k d) (get_or ns k e) (fits_at k d e here packs) k
+module _ {all : List Remainder} {ims later_ims : List Image} {ns later_ns : List Number} {found : List Remainder} {im : Image} {n : Number}
+    (l : Leaving all ims ns found) (images : ims ≡ im ∷ later_ims) (numbers : ns ≡ n ∷ later_ns) where
+  -- what truncation leaves of the next number is found
+  pub left_next : remainder 0 im n ≡ done (cut_off im n (truncated_to im n))
+  left_next = remainder_fit im n (packs_fit (next_packs l.packs images numbers).0) 0
 
   -- one remainder more
-  pub left_more :
-      {before after : List Remainder} {r : Remainder}
-      → before ≡ left_of (take k ims) (take k ns)
-      → done r ≡ remainder k (get_or ims k d) (get_or ns k e)
-      → after ≡ before ++ r ∷ []
-      → after ≡ left_of (take (k + 1) ims) (take (k + 1) ns)
-  left_more {before} {after} {r} so_far found pushed =
-      pushed
-      ∙ ap₂ (λ (l : List Remainder) (x : Remainder). l ++ x ∷ []) so_far (done_same (found ∙ left_at))
-      ∙ sym (left_next ims ns k d e here (omega (arith, packs_length packs)))
-      ∙ ap (λ (i : ℕ). left_of (take i ims) (take i ns)) (sym (add-one k))
+  pub leaving_turns :
+      {r : Remainder} {after : List Remainder} → done r ≡ remainder 0 im n → after ≡ found ++ r ∷ [] → Leaving all later_ims later_ns after
+  unfolding left_of
+  leaving_turns {r} {after} given pushed =
+      let same : r ≡ cut_off im n (truncated_to im n) = done_same (given ∙ left_next) in
+      rw pushed
+      (record {
+        packs = (next_packs l.packs images numbers).1;
+        room = omega (arith, length-append found (r ∷ []), ap length images, l.room);
+        whole =
+            append_assoc found (r ∷ []) (left_of later_ims later_ns)
+            ∙ ap (λ (x : Remainder). found ++ x ∷ left_of later_ims later_ns) same
+            ∙ ap₂ (λ (a : List Image) (b : List Number). found ++ left_of a b) (sym images) (sym numbers)
+            ∙ l.whole;
+      })
 
--- behind the last column
-pub left_all :
-    {ims : List Image} {ns : List Number} (k : ℕ) {all : List Remainder}
-    → AllPack ims ns
-    → length ims ≤ k
-    → all ≡ left_of (take k ims) (take k ns)
-    → cut_columns 0 ims ns ≡ done all
-left_all {ims} {ns} k {all} packs end found =
-    let many = packs_length packs in
-    packs_left 0 packs ∙ ap {B = Answer (List Remainder)} done (sym (found ∙ (λ i. left_of (take_all k ims end i) (take_all k ns (omega arith) i))))
+-- behind the last column all are found
+pub leaving_ends :
+    {all : List Remainder} {ims : List Image} {ns : List Number} {found : List Remainder}
+    → Leaving all ims ns found
+    → (length ims ≡ 0) ⊎ (length ns ≡ 0)
+    → all ≡ found
+unfolding left_of
+leaving_ends {all} {ims} {ns} {found} l end =
+    let left = none_packs l.packs end in
+    let none : left_of ims ns ≡ [] = ap₂ left_of left.0 left.1 in
+    sym l.whole ∙ ap (λ (rest : List Remainder). found ++ rest) none ∙ append-nil found
 
 -- The call.
 

@@ -4,12 +4,11 @@ use Prim.Native.Nat.{ℕ, suc, ◌+◌, ◌<◌, ◌≤◌}
 use mathlib.Core.Path.{◌≡◌, refl, ap, sym, ◌∙◌}
 use mathlib.Core.Bool.{Bool, true, false, ◌&&◌}
 use mathlib.Core.List.{List, [], ◌∷◌}
-use native.Mathlib.Omega.{arith}
 use native.Mathlib.Numerals.{add-one}
 use lib.Dec.{leb}
 use lib.ListN.{length, drop, get_or, drop_of_length-le}
 use lib.Seq.{drop-cons}
-use borrow.Author.Tests.{leb-true, le-leb, lt-leb}
+use borrow.Author.Tests.{leb-true, le-leb}
 use Rattle.decimal.specs.declared.image.Image.{Image}
 use Rattle.decimal.specs.declared.number.Number.{Number}
 use Rattle.decimal.specs.Answer.{done, refused, ◌then◌, pick, mapped}
@@ -19,11 +18,11 @@ use Rattle.decimal.proofs.ImageLaws.{check_within, check_image_done}
 use Rattle.codec.specs.declared.contents.Contents.{Contents}
 use Rattle.codec.specs.Lists.{max_columns}
 use Rattle.codec.specs.Columns.{AllChecked, none, more}
-use Rattle.codec.specs.Contents.{Table, read_alone, contents_of, check_each, check_images}
+use Rattle.codec.specs.Contents.{Table, read_alone, contents_of, check_each, check_images, check_count}
 use Rattle.codec.specs.Packing.{pack_list, body_of, pack_under, packing_under, packing}
 use Rattle.codec.specs.Unpacking.{unpack_body, unpack_under, unpacking}
 use Rattle.decimal.proofs.AnswerLaws.{never_done, then_done}
-use Rattle.codec.proofs.ContentsLaws.{Sound, alone_sound, told_read}
+use Rattle.codec.proofs.ContentsLaws.{Sound, count_refused, alone_sound, told_read}
 
 -- Which images a contents can have.
 
@@ -63,15 +62,10 @@ module _ (ims : List Image) where
   unfolding check_images
   checks_each low high = rw (le-leb 1 (length ims) low, le-leb (length ims) max_columns high)
 
-  -- no image
-  pub checks_none : length ims < 1 → check_images ims ≡ refused 10 0
+  -- the count decides first
+  pub checks_counted : {number place : ℕ} → refused number place ≡ check_count (length ims) → check_images ims ≡ refused number place
   unfolding check_images
-  checks_none h = rw (lt-leb 1 (length ims) h)
-
-  -- more than 16
-  pub checks_many : max_columns < length ims → check_images ims ≡ refused 10 0
-  unfolding check_images
-  checks_many h = let low : 1 ≤ length ims = omega arith in rw (le-leb 1 (length ims) low, lt-leb (length ims) max_columns h)
+  checks_counted h = count_refused (length ims) (check_each 0 ims) h
 
 -- the images of a contents are not refused
 pub checked_checks : {ims : List Image} → AllChecked ims → 1 ≤ length ims → length ims ≤ max_columns → check_images ims ≡ done tt
@@ -126,14 +120,15 @@ unfolding unpacking ◌then◌
 unpacking_same contents body {table} h = rw (h, unpack_under_checked table.images body (alone_checks contents h))
 
 module _ (contents : List ℕ) {r : Contents} (told : done r ≡ mapped contents_of (read_alone contents)) where
-  -- so the code packs under the contents that it read
-  pub packing_lent : (ns : List Number) (room : ℕ) → packing contents ns room ≡ packing_under r.images.items ns room
-  packing_lent ns room =
-      let t = told_read (read_alone contents) told in
-      packing_same contents ns room t.reads ∙ ap (λ (ims : List Image). packing_under ims ns room) (sym t.images)
+  module _ {lent : List Image} (same : lent ≡ r.images.items) where
+    -- so what the code packs under the images that it read is packed under the contents
+    pub packing_lent : (ns : List Number) (room : ℕ) → packing_under lent ns room ≡ packing contents ns room
+    packing_lent ns room =
+        let t = told_read (read_alone contents) told in
+        ap (λ (ims : List Image). packing_under ims ns room) (same ∙ t.images) ∙ sym (packing_same contents ns room t.reads)
 
-  -- and reads back under it
-  pub unpacking_lent : (body : List ℕ) → unpacking contents body ≡ unpack_under r.images.items body
-  unpacking_lent body =
-      let t = told_read (read_alone contents) told in
-      unpacking_same contents body t.reads ∙ ap (λ (ims : List Image). unpack_under ims body) (sym t.images)
+    -- and what it reads back under them is read back under the contents
+    pub unpacking_lent : (body : List ℕ) → unpack_under lent body ≡ unpacking contents body
+    unpacking_lent body =
+        let t = told_read (read_alone contents) told in
+        ap (λ (ims : List Image). unpack_under ims body) (same ∙ t.images) ∙ sym (unpacking_same contents body t.reads)

@@ -12,8 +12,6 @@ use lib.Arith.{digits_div, digits_mod}
 use lib.Dec.{ltb}
 use lib.ListN.{length, take, drop, get_or, length-append, length-drop, take-append-drop, drop_of_length-le}
 use lib.Seq.{drop-cons, drop-drop, length-take-le, append_snoc}
-use Rattle.decimal.specs.declared.image.Sign.{Sign}
-use Rattle.decimal.specs.declared.image.Sign.TheVariants.{Unsigned, Plus, Minus}
 use Rattle.decimal.specs.declared.image.Image.{Image}
 use Rattle.decimal.specs.declared.number.Number.{Number}
 use Rattle.decimal.specs.Answer.{Answer, done, refused, ◌then◌, pick}
@@ -29,7 +27,7 @@ use Rattle.codec.specs.Contents.{read_alone, check_images}
 use Rattle.codec.proofs.ContentsLaws.{column_halves_lem, column_few}
 use Rattle.codec.proofs.UnderLaws.{unpack_under_checked}
 use Rattle.codec.specs.Halves.{halves_of}
-use Rattle.codec.specs.Unpacking.{all_digits, all_zero, sign_part, digit_part, exponent_part, pad_part, parts_number, halves_number, unpack_column, unpack_columns, unpack_body, unpack_under, unpacking, read_on, first_half, unpadded_number, run_number, run_limit}
+use Rattle.codec.specs.Unpacking.{all_digits, all_zero, sign_part, digit_part, exponent_part, pad_part, parts_number, halves_number, unpack_column, unpack_columns, unpack_body, unpack_under, unpacking, read_on, unpadded_number, run_number, run_limit}
 
 -- Reading digits on.
 
@@ -106,23 +104,11 @@ pub worth_below : (b : ℕ) {w : ℕ} → done w ≡ read_on 0 (halves_of (b ∷
 unfolding halves_of
 worth_below b {w} worth = (two_read (b / 16) (b % 16) 0 w [] worth).1
 
--- the first byte behind its sign half, where that is no digit
-pub first_bad : (bytes : List ℕ) → 0 < length bytes → 9 < get_or bytes 0 0 % 16 → read_on 0 (drop 1 (halves_of bytes)) ≡ refused 7 0
-unfolding read_on halves_of
-first_bad [] some h = absurd (omega arith)
-first_bad (b ∷ bs) some h = let above : 10 ≤ b % 16 = omega arith in rw (le-ltb (b % 16) 10 above)
-
--- and where it is one
-pub first_read :
-    (bytes : List ℕ)
-    → 0 < length bytes
-    → get_or bytes 0 0 % 16 ≤ 9
-    → read_on 0 (drop 1 (halves_of bytes)) ≡ read_on (get_or bytes 0 0 % 16) (halves_of (drop 1 bytes))
-unfolding read_on halves_of
-first_read [] some h = absurd (omega arith)
-first_read (b ∷ bs) some h =
-    let below : b % 16 < 10 = omega arith in
-    rw (lt-ltb (b % 16) 10 below) (ap (λ (k : ℕ). read_on k (halves_of bs)) (omega arith))
+-- the first half of bytes is the high half of the first
+pub first_high : (bytes : List ℕ) → 0 < length bytes → get_or bytes 0 0 / 16 ≡ get_or (halves_of bytes) 0 0
+unfolding halves_of
+first_high [] some = absurd (omega arith)
+first_high (b ∷ bs) some = refl
 
 -- Runs of digits.
 
@@ -309,47 +295,43 @@ unfolding halves_of
 halves_length [] = refl
 halves_length (b ∷ bs) = omega (arith, halves_length bs)
 
--- the first half, or none, by the count of sign halves
-sign_half_lem : (sign : Sign) (hs : List ℕ) → first_half (sign_count sign) hs ≡ sign_part sign hs
-unfolding first_half sign_part
-sign_half_lem Unsigned hs = refl
-sign_half_lem Plus hs = refl
-sign_half_lem Minus hs = refl
+module _ (column : ℕ) (im : Image) (bytes : List ℕ) (checked : Checked im) (sized : length bytes ≡ column_size im) where
+  -- the halves behind its sign half
+  abbrev behind_sign : List ℕ
+  behind_sign = drop (sign_count im.sign) (halves_of bytes)
 
-module _ (column : ℕ) (im : Image) (bytes : List ℕ) (checked : Checked im) (sized : length bytes ≡ column_size im) {signs : ℕ}
-    (signed : signs ≡ sign_count im.sign) where
   -- the number of a column's bytes, by the halves behind its sign half
   column_whole :
       unpack_column column im bytes
-      ≡ pick (all_digits (drop signs (halves_of bytes)))
-      (run_number column im (first_half signs (halves_of bytes)) (value_of (drop signs (halves_of bytes))))
+      ≡ pick (all_digits behind_sign)
+      (run_number column im (sign_part im.sign (halves_of bytes)) (value_of behind_sign))
       (refused 7 column)
   unfolding unpack_column
   column_whole =
       let halves : length (halves_of bytes) ≡ half_count im + pad_count im = omega (arith, halves_length bytes, column_halves_lem im) in
-      rw (signed, sign_half_lem im.sign (halves_of bytes)) (halves_run column im (halves_of bytes) halves)
+      halves_run column im (halves_of bytes) halves
 
   -- a column whose halves behind the sign half are digits
   pub column_run :
       {v half : ℕ}
-      → read_on 0 (drop signs (halves_of bytes)) ≡ done v
-      → half ≡ first_half signs (halves_of bytes)
+      → read_on 0 behind_sign ≡ done v
+      → half ≡ sign_part im.sign (halves_of bytes)
       → unpack_column column im bytes ≡ run_number column im half v
   column_run {v} {half} h e =
-      let value = read_value (drop signs (halves_of bytes)) h in
+      let value = read_value behind_sign h in
       column_whole ∙ rw (value.0, ← value.1, ← e)
 
   -- their value is within a u64
-  pub column_small : {v : ℕ} → read_on 0 (drop signs (halves_of bytes)) ≡ done v → v < run_limit
+  pub column_small : {v : ℕ} → read_on 0 behind_sign ≡ done v → v < run_limit
   column_small {v} h =
-      let ds = drop signs (halves_of bytes) in
+      let ds = behind_sign in
       let value = read_value ds h in
-      let few : length ds ≤ 18 = omega (arith, length-drop signs (halves_of bytes), halves_length bytes, column_few checked) in
+      let few : length ds ≤ 18 = omega (arith, length-drop (sign_count im.sign) (halves_of bytes), halves_length bytes, column_few checked) in
       omega (arith, value_below ds (all_digits_lem ds value.0), value.1, pow10_mono few)
 
   -- a column with another half
-  pub column_bad : read_on 0 (drop signs (halves_of bytes)) ≡ refused 7 0 → unpack_column column im bytes ≡ refused 7 column
-  column_bad h = column_whole ∙ rw (read_none (drop signs (halves_of bytes)) h)
+  pub column_bad : read_on 0 behind_sign ≡ refused 7 0 → unpack_column column im bytes ≡ refused 7 column
+  column_bad h = column_whole ∙ rw (read_none behind_sign h)
 
 -- The columns, from the left.
 
@@ -363,21 +345,21 @@ then_twice (done rest) ns n = ap {B = Answer (List Number)} done (sym (append_sn
 then_twice (refused number place) ns n = refl
 
 -- so many columns are read: with the numbers of the columns that are left theirs are the whole
-pub record Unpacking (ims : List Image) (body : List ℕ) (numbers : List Number) (start column : ℕ) : Type 0 where
+pub record Unpacking (ims : List Image) (body : List ℕ) (numbers : List Number) (behind : List ℕ) (column : ℕ) : Type 0 where
   pub counted : length numbers ≡ column
-  pub left : start + body_size (drop column ims) ≡ length body
-  pub rest : unpack_columns 0 ims body ≡ (unpack_columns column (drop column ims) (drop start body) then λ (ns : List Number). done (numbers ++ ns))
+  pub left : length behind ≡ body_size (drop column ims)
+  pub rest : unpack_columns 0 ims body ≡ (unpack_columns column (drop column ims) behind then λ (ns : List Number). done (numbers ++ ns))
 
 -- before the first column
-pub columns_start : (ims : List Image) (body : List ℕ) → length body ≡ body_size ims → Unpacking ims body [] 0 0
+pub columns_start : (ims : List Image) (body : List ℕ) → length body ≡ body_size ims → Unpacking ims body [] body 0
 columns_start ims body sized =
     record {
       counted = refl;
-      left = omega arith;
+      left = sized;
       rest = sym (then_same (unpack_columns 0 ims body));
     }
 
-module _ {ims : List Image} {body : List ℕ} {numbers : List Number} {start column : ℕ} (u : Unpacking ims body numbers start column)
+module _ {ims : List Image} {body : List ℕ} {numbers : List Number} {behind : List ℕ} {column : ℕ} (u : Unpacking ims body numbers behind column)
     (d : Image) (more : column < length ims) where
   -- the next column's image
   abbrev im : Image
@@ -392,62 +374,55 @@ module _ {ims : List Image} {body : List ℕ} {numbers : List Number} {start col
   unfolding body_size
   columns_left = ap body_size next_column
 
-  -- the next column is inside the body
-  pub column_inside : start + column_size im ≤ length body
+  -- the next column is inside what is left
+  pub column_inside : column_size im ≤ length behind
   column_inside = omega (arith, columns_left, u.left)
 
   -- and its number comes first
   columns_rest :
-      unpack_columns column (drop column ims) (drop start body)
-      ≡ (unpack_column column im (take (column_size im) (drop start body)) then λ (n : Number).
-      (unpack_columns (suc column) (drop (suc column) ims) (drop (start + column_size im) body) then λ (ns : List Number). done (n ∷ ns)))
+      unpack_columns column (drop column ims) behind
+      ≡ (unpack_column column im (take (column_size im) behind) then λ (n : Number).
+      (unpack_columns (suc column) (drop (suc column) ims) (drop (column_size im) behind) then λ (ns : List Number). done (n ∷ ns)))
   unfolding unpack_columns
-  columns_rest = rw (next_column, drop-drop (column_size im) start body)
+  columns_rest = ap (λ (l : List Image). unpack_columns column l behind) next_column
 
   module _ {size : ℕ} (sized : size ≡ column_size im) where
-    -- the part of the body that the code lends
-    same_part :
-        unpack_column column im (take (start + size - start) (drop start body)) ≡ unpack_column column im (take (column_size im) (drop start body))
-    same_part =
-        let length_same : start + size - start ≡ column_size im = omega arith in
-        ap (λ (k : ℕ). unpack_column column im (take k (drop start body))) length_same
+    -- the part of the body that the code takes off
+    same_part : unpack_column column im (take (column_size im) behind) ≡ unpack_column column im (take size behind)
+    same_part = ap (λ (k : ℕ). unpack_column column im (take k behind)) (sym sized)
 
     -- it is of the column's size
-    pub column_part : length (take (start + size - start) (drop start body)) ≡ column_size im
-    column_part =
-        let inside = column_inside in
-        length-take-le (start + size - start) (drop start body) (omega (arith, length-drop start body)) ∙ omega arith
+    pub column_part : length (take size behind) ≡ column_size im
+    column_part = length-take-le size behind (omega (arith, column_inside)) ∙ sized
 
     -- a column that is refused
     pub columns_refused :
-        {number place : ℕ}
-        → unpack_column column im (take (start + size - start) (drop start body)) ≡ refused number place
-        → unpack_columns 0 ims body ≡ refused number place
+        {number place : ℕ} → unpack_column column im (take size behind) ≡ refused number place → unpack_columns 0 ims body ≡ refused number place
     unfolding ◌then◌
-    columns_refused h = u.rest ∙ rw (columns_rest, sym same_part ∙ h)
+    columns_refused h = u.rest ∙ rw (columns_rest, same_part ∙ h)
 
     -- a column that is read
     pub columns_turn :
         {n : Number} {after : List Number}
-        → unpack_column column im (take (start + size - start) (drop start body)) ≡ done n
+        → unpack_column column im (take size behind) ≡ done n
         → after ≡ numbers ++ (n ∷ [])
-        → Unpacking ims body after (start + size) (column + 1)
+        → Unpacking ims body after (drop size behind) (column + 1)
     unfolding ◌then◌
     columns_turn {n} h pushed =
         rw (sized, pushed)
         (record {
           counted = omega (arith, length-append numbers (n ∷ []), u.counted);
-          left = rw (add-one column) (omega (arith, columns_left, u.left));
+          left = rw (add-one column) (omega (arith, columns_left, u.left, length-drop (column_size im) behind));
           rest =
               u.rest
-              ∙ rw (columns_rest, sym same_part ∙ h, add-one column)
-              (then_twice (unpack_columns (suc column) (drop (suc column) ims) (drop (start + column_size im) body)) numbers n);
+              ∙ rw (columns_rest, same_part ∙ h, add-one column)
+              (then_twice (unpack_columns (suc column) (drop (suc column) ims) (drop (column_size im) behind)) numbers n);
         })
 
 -- behind the last column
 pub columns_end :
-    {ims : List Image} {body : List ℕ} {numbers : List Number} {start column : ℕ}
-    → Unpacking ims body numbers start column
+    {ims : List Image} {body : List ℕ} {numbers : List Number} {behind : List ℕ} {column : ℕ}
+    → Unpacking ims body numbers behind column
     → length ims ≤ column
     → unpack_columns 0 ims body ≡ done numbers
 unfolding unpack_columns ◌then◌

@@ -29,6 +29,12 @@ unfoldable pub digit_bytes : List ℕ → List ℕ
 digit_bytes [] = []
 digit_bytes (d ∷ ds) = (zero_byte + d) ∷ digit_bytes ds
 
+-- the byte that stands for a number's sign under the sign of an image: - below zero, else + for + and a blank for any other
+unfoldable pub sign_shown : Sign → Bool → ℕ
+sign_shown Unsigned negative = pick negative minus_byte blank_byte
+sign_shown Plus negative = pick negative minus_byte plus_byte
+sign_shown Minus negative = pick negative minus_byte blank_byte
+
 -- under + the first byte is + or −; under − it is blank or −; else there is none
 unfoldable pub sign_text : Sign → Bool → List ℕ
 sign_text Unsigned negative = []

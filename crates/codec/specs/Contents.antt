@@ -75,6 +75,10 @@ read_contents (count ∷ bytes) =
 unfoldable pub read_alone : List ℕ → Answer Table
 read_alone bytes = read_contents bytes then λ table. pick (eqb table.size (length bytes)) (done table) (refused 11 0)
 
+-- a contents can have so many columns: 10 where not
+unfoldable pub check_count : ℕ → Answer (Unit {0})
+check_count count = pick (leb 1 count && leb count max_columns) (done tt) (refused 10 0)
+
 -- each of these images can stand in a contents: 1 and 2 from the left
 unfoldable pub check_each : ℕ → List Image → Answer (Unit {0})
 check_each column [] = done tt

@@ -1,5 +1,5 @@
 -- Document 01, Packed bodies: reading back.
-use Rattle.std.specs.Prelude.{ℕ, zero, suc, ◌+◌, ◌-◌, ◌*◌, ◌/◌, ◌%◌, ◌^◌, List, [], ◌∷◌, Bool, true, not, Option, Some, None, ◌&&◌, length, take, drop, get_or, ltb, leb, eqb}
+use Rattle.std.specs.Prelude.{ℕ, suc, ◌+◌, ◌-◌, ◌*◌, ◌/◌, ◌%◌, ◌^◌, List, [], ◌∷◌, Bool, true, not, Option, Some, None, ◌&&◌, length, take, drop, get_or, ltb, leb, eqb}
 use Rattle.decimal.specs.declared.image.Sign.{Sign}
 use Rattle.decimal.specs.declared.image.Sign.TheVariants.{Unsigned, Plus, Minus}
 use Rattle.decimal.specs.declared.image.Image.{Image}
@@ -125,11 +125,6 @@ read_on start (d ∷ ds) = pick (ltb d 10) (read_on (start * 10 + d) ds) (refuse
 abbrev pub run_meaning : Option ℕ → Answer ℕ
 run_meaning (Some value) = done value
 run_meaning None = refused 7 0
-
--- the first half where there are sign halves, else 0
-unfoldable pub first_half : ℕ → List ℕ → ℕ
-first_half zero hs = 0
-first_half (suc n) hs = get_or hs 0 0
 
 -- the number of a sign half and of all the digits behind it but the padding, as one whole number
 unfoldable pub unpadded_number : ℕ → Image → ℕ → ℕ → Answer Number

@@ -6,11 +6,11 @@ ghost use Rattle.decimal.specs.Number.{exponent_limit};
 ghost use Rattle.decimal.specs.Image.{plus_byte, minus_byte};
 ghost use Rattle.codec.specs.Answers.{stored_in, sized};
 ghost use Rattle.codec.specs.Columns.{sign_count};
-ghost use Rattle.codec.specs.Alpha.{zero_byte, digit_bytes, sign_text, fraction_text, exponent_text, alpha_text, writing_alpha_under, writing_alpha, fraction_length, exponent_length, text_length, zero_at};
+ghost use Rattle.codec.specs.Alpha.{zero_byte, digit_bytes, sign_shown, sign_text, fraction_text, exponent_text, alpha_text, writing_alpha_under, writing_alpha, fraction_length, exponent_length, text_length, zero_at};
 ghost use Rattle.codec.specs.Packing.{held_by, Held};
 
 use crate::columns::sign_count;
-use crate::packing::exponent_size;
+use crate::packing::{HeldNumber, exponent_size};
 use decimal::{EXPONENT_LIMIT, Image, Number, Refusal, Sign, Truncation, read_image, truncate};
 
 // The byte of a digit.
@@ -21,32 +21,32 @@ fn digit_byte(digit: u8) -> u8
     b'0' + digit
 }
 
-// The first byte under an image with a sign.
-fn sign_byte(sign: Sign, negative: bool) -> u8
-    requires { 0 < sign_count sign }
-    ensures { result ≡ get_or (sign_text sign negative) 0 0 }
+// The byte that stands for a number's sign under the sign of an image: - below zero, else + for + and a blank for any other.
+#[tactic(auto, using(crate::proofs::AlphaLaws::minus_shown), unfolding(crate::specs::Alpha::sign_shown))]
+pub fn sign_byte(sign: Sign, negative: bool) -> u8
+    ensures { result ≡ sign_shown sign negative }
 {
-    if negative {
-        return b'-';
-    }
-    match sign {
-        Sign::Unsigned => b' ',
-        Sign::Plus => b'+',
-        Sign::Minus => b' ',
+    match (negative, sign) {
+        (true, _) => b'-',
+        (false, Sign::Plus) => b'+',
+        (false, Sign::Unsigned | Sign::Minus) => b' ',
     }
 }
 
 // The length of the point and the digits behind it.
+#[tactic(auto, using(crate::proofs::AlphaLaws::fraction_none, crate::proofs::AlphaLaws::fraction_some))]
 fn fraction_length(fraction: u8) -> usize
     ensures { result ≡ fraction_length fraction }
 {
     if fraction == 0 {
-        return 0;
+        0
+    } else {
+        usize::from(fraction) + 1
     }
-    fraction as usize + 1
 }
 
-// The length of the exponent part.
+// The length of the exponent part: E, a sign and two digits. Not exponent_count of columns.rt, which counts half bytes.
+#[tactic(auto, unfolding(crate::specs::Alpha::exponent_length))]
 fn exponent_length(exponential: bool) -> usize
     ensures { result ≡ exponent_length exponential }
 {
@@ -54,22 +54,16 @@ fn exponent_length(exponential: bool) -> usize
 }
 
 // The length of the text under an image, which is the image's.
+#[tactic(auto, using(crate::proofs::AlphaLaws::parts_few), unfolding(crate::specs::Alpha::text_length, crate::specs::Alpha::tail_length))]
 fn text_length(image: Image) -> usize
     ensures { result ≡ text_length image }
 {
-    let sign = image.sign;
     let tail = fraction_length(image.fraction) + exponent_length(image.exponential);
-    sign_count(sign) + (image.integer as usize + tail)
+    sign_count(image.sign) + (usize::from(image.integer) + tail)
 }
 
-// The sign of the stored exponent.
-fn exponent_sign(x: usize) -> u8
-    ensures { result ≡ pick (ltb x exponent_limit) minus_byte plus_byte }
-{
-    if x < EXPONENT_LIMIT { b'-' } else { b'+' }
-}
-
-// Writes the digits that the last half bytes of a run are, as many as the target has.
+// Writes the digits that the last half bytes of a run are, as many as the target has. By shifts and masks, as write_run, which writes two
+// half bytes in a byte.
 fn write_digits(run: u64, target: &mut [u8])
     requires { length target.old ≤ 16 }
     ensures { target.new ≡ digit_bytes (halves_in (length target.old) run) }
@@ -81,6 +75,7 @@ fn write_digits(run: u64, target: &mut [u8])
 }
 
 // Writes the sign byte where the image has a sign.
+#[tactic(auto, using(crate::proofs::AlphaLaws::sign_filled, crate::proofs::AlphaLaws::nothing_filled, crate::proofs::AlphaLaws::sign_text_length))]
 fn write_sign(sign: Sign, negative: bool, target: &mut [u8])
     requires { length target.old ≡ sign_count sign }
     ensures { target.new ≡ sign_text sign negative }
@@ -91,6 +86,7 @@ fn write_sign(sign: Sign, negative: bool, target: &mut [u8])
 }
 
 // Writes the point, and as many digits behind it as the target has room for; where the target has no byte, nothing.
+#[tactic(auto, using(decimal::proofs::PackedLaws::last_halves, crate::proofs::AlphaLaws::fraction_filled), unfolding(crate::specs::Alpha::fraction_text))]
 fn write_fraction(halves: u64, target: &mut [u8])
     requires { (length target.old ≡ fraction_length (length target.old - 1)) × (length target.old ≤ precision + 1) × (halves ≡ packed_of (digits_of precision (value_of (halves_in precision halves)))) }
     ensures { target.new ≡ fraction_text (length target.old - 1) (value_of (halves_in precision halves)) }
@@ -102,6 +98,7 @@ fn write_fraction(halves: u64, target: &mut [u8])
 }
 
 // Writes the exponent part, E, the sign of x and two digits, where the image has an exponent.
+#[tactic(auto, using(crate::proofs::AlphaLaws::exponent_shown), unfolding(crate::specs::Alpha::exponent_length, crate::specs::Alpha::exponent_text, crate::specs::Alpha::sign_shown))]
 fn write_exponent(exponential: bool, x: usize, target: &mut [u8])
     requires { (x ≤ 2 * exponent_limit) × (length target.old ≡ exponent_length exponential) }
     ensures { target.new ≡ exponent_text exponential (zero_at x) }
@@ -110,7 +107,7 @@ fn write_exponent(exponential: bool, x: usize, target: &mut [u8])
         let size = exponent_size(x);
         target.copy_from_slice(&[
             b'E',
-            exponent_sign(x),
+            sign_byte(Sign::Plus, x < EXPONENT_LIMIT),
             digit_byte(size / 10),
             digit_byte(size % 10),
         ]);
@@ -118,24 +115,24 @@ fn write_exponent(exponential: bool, x: usize, target: &mut [u8])
 }
 
 // Writes the text, which is the whole target.
-fn write_text(image: Image, truncation: Truncation, target: &mut [u8])
-    requires { (Held image truncation) × (length target.old ≡ text_length image) }
-    ensures { target.new ≡ alpha_text image (held_by truncation) }
+#[tactic(auto, using(crate::proofs::AlphaLaws::fraction_few, crate::proofs::AlphaLaws::fraction_same, crate::proofs::AlphaLaws::text_filled), unfolding(crate::specs::Alpha::text_length, crate::specs::Alpha::tail_length))]
+fn write_text(held: HeldNumber, target: &mut [u8])
+    requires { length target.old ≡ text_length held.image }
+    ensures { target.new ≡ alpha_text held.image (held_by held.truncation) }
 {
-    let sign = image.sign;
-    let halves = truncation.halves;
-    let fraction = image.fraction;
-    let (signs, digits) = target.split_at_mut(sign_count(sign));
-    let (integer, tail) = digits.split_at_mut(image.integer as usize);
-    let (point, exponent) = tail.split_at_mut(fraction_length(fraction));
-    write_sign(sign, truncation.negative, signs);
-    write_digits(halves >> (4 * fraction), integer);
-    write_fraction(halves, point);
+    let HeldNumber { image, truncation } = held;
+    let (signs, digits) = target.split_at_mut(sign_count(image.sign));
+    let (integer, tail) = digits.split_at_mut(usize::from(image.integer));
+    let (point, exponent) = tail.split_at_mut(fraction_length(image.fraction));
+    write_sign(image.sign, truncation.negative, signs);
+    write_digits(truncation.halves >> (4 * image.fraction), integer);
+    write_fraction(truncation.halves, point);
     write_exponent(image.exponential, truncation.x, exponent);
 }
 
 // The alpha text of a number under an image already read, of the image's length, at the buffer's start; the bytes behind it stay.
 // Refused with 1, 2, 3, 4, 5, 6 in this order; then no byte changes.
+#[tactic(auto, using(decimal::proofs::AnswerLaws::mapped_refused_back, crate::proofs::AlphaLaws::text_length_lem, crate::proofs::AlphaLaws::truncation_found, crate::proofs::AlphaLaws::under_refused, crate::proofs::AlphaLaws::under_held, crate::proofs::AlphaLaws::writing_under_refused, crate::proofs::AlphaLaws::writing_under_done), unfolding(crate::specs::Answers::stored_in, crate::specs::Answers::sized))]
 pub fn write_alpha_under(image: Image, number: Number, buffer: &mut [u8]) -> Result<usize, Refusal>
     ensures answer { meaning result ≡ sized (writing_alpha_under image number (length buffer.old)) }
     ensures bytes { buffer.new ≡ stored_in (writing_alpha_under image number (length buffer.old)) buffer.old }
@@ -145,11 +142,13 @@ pub fn write_alpha_under(image: Image, number: Number, buffer: &mut [u8]) -> Res
     if buffer.len() < length {
         return Err(Refusal::NO_ROOM);
     }
-    write_text(image, truncation, &mut buffer[..length]);
+    let held = HeldNumber { image, truncation };
+    write_text(held, &mut buffer[..length]);
     Ok(length)
 }
 
 // The alpha text of a number under the bytes of an image, as write_alpha_under writes it; refused first as the image is.
+#[tactic(auto, using(crate::proofs::AlphaLaws::alpha_image, crate::proofs::AlphaLaws::writing_refused, crate::proofs::AlphaLaws::writing_read), unfolding(crate::specs::Answers::stored_in, crate::specs::Answers::sized, crate::specs::Alpha::writing_alpha))]
 pub fn write_alpha(image: &[u8], number: Number, buffer: &mut [u8]) -> Result<usize, Refusal>
     ensures answer { meaning result ≡ sized (writing_alpha image.now number (length buffer.old)) }
     ensures bytes { buffer.new ≡ stored_in (writing_alpha image.now number (length buffer.old)) buffer.old }

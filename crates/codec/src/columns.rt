@@ -1,20 +1,18 @@
 // The size of a column, and the exponent that its direction and size say (document 01: Packed bodies).
 ghost use Rattle.std.specs.Prelude.{◌≡◌, ◌+◌, ◌-◌, ◌≤◌};
 ghost use Rattle.decimal.specs.Answer.{pick};
-ghost use Rattle.decimal.specs.Image.{hashes};
 ghost use Rattle.decimal.specs.Number.{exponent_limit};
 ghost use Rattle.codec.specs.Columns.{sign_count, exponent_count, half_count, column_size};
 
 use decimal::{EXPONENT_LIMIT, Image, Sign};
 
 // The count of sign halves in a column.
-pub(crate) fn sign_count(sign: Sign) -> usize
+pub fn sign_count(sign: Sign) -> usize
     ensures { result ≡ sign_count sign }
 {
     match sign {
         Sign::Unsigned => 0,
-        Sign::Plus => 1,
-        Sign::Minus => 1,
+        Sign::Plus | Sign::Minus => 1,
     }
 }
 
@@ -37,22 +35,15 @@ pub(crate) fn signed_exponent(below: bool, size: usize) -> usize
     }
 }
 
-// The count of digits in a column.
-pub(crate) fn hash_count(image: Image) -> usize
-    ensures { result ≡ hashes image }
-{
-    image.integer as usize + image.fraction as usize
-}
-
 // The count of half bytes in a column before the padding.
 pub(crate) fn half_count(image: Image) -> usize
     ensures { result ≡ half_count image }
 {
-    let sign = image.sign;
-    sign_count(sign) + (hash_count(image) + exponent_count(image.exponential))
+    sign_count(image.sign) + (image.hashes() + exponent_count(image.exponential))
 }
 
 // The count of bytes in a column.
+#[tactic(auto, unfolding(crate::specs::Columns::column_size))]
 pub(crate) fn column_size(image: Image) -> usize
     ensures { result ≡ column_size image }
 {

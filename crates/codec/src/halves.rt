@@ -17,7 +17,7 @@ pub(crate) fn low_half(byte: u8) -> u8
     byte & 15
 }
 
-// Writes the bytes that the last half bytes of a run make, as many as the target has.
+// Writes the bytes that the last half bytes of a run make, as many as the target has. By shifts and masks, document 01's form.
 pub(crate) fn write_run(run: u64, target: &mut [u8])
     requires { length target.old ≤ 8 }
     ensures { target.new ≡ pack_halves (halves_in (2 * length target.old) run) }

@@ -14,15 +14,13 @@ mod unpacking;
 mod walking;
 mod worths;
 
-pub use alpha::{write_alpha, write_alpha_under};
+pub use alpha::{sign_byte, write_alpha, write_alpha_under};
 pub use answers::written_part;
+pub use columns::sign_count;
 pub use contents::{Contents, read_alone, read_contents};
 pub use lists::{COLUMNS, Images, Numbers, Remainders};
 pub use packing::{pack, pack_under};
 pub use remainders::{Packed, pack_with_remainders};
 pub use text::{NO_NUMBER, Reading, TextNumber, convert, legal_length, read_text_number};
 pub use unpacking::{unpack, unpack_under};
-pub use walking::{
-    Stop, Walked, Walker, next_number_place, next_text_number, read_text_numbers, skip_to_number,
-    walker_over, walker_place,
-};
+pub use walking::{Stop, Walked, Walker, next_number_place, read_text_numbers};

@@ -10,99 +10,104 @@ ghost use Rattle.codec.specs.Columns.{column_size, body_size};
 ghost use Rattle.codec.specs.Alpha.{zero_at};
 ghost use Rattle.codec.specs.Packing.{column_bytes, column_halves, exponent_halves, packing, packing_under, pack_columns, AllPack, sign_halves, Held, held_by};
 
-use crate::columns::{column_size, half_count, hash_count, sign_count};
+use crate::columns::{column_size, half_count};
 use crate::contents::{body_size, check_images, read_alone};
 use crate::halves::write_run;
-use decimal::{EXPONENT_LIMIT, Image, Number, Refusal, Truncation, fit_packed, truncate};
-
-// What is known of a truncation and its image stands in the contracts and not in a type: anyone can fill one in, and every call takes any.
+use decimal::{EXPONENT_LIMIT, Image, Number, Refusal, Sign, Truncation, fit_packed, truncate};
 
 // The size |x| of a stored exponent that is held as x + EXPONENT_LIMIT.
 pub(crate) fn exponent_size(x: usize) -> u8
     requires { x ≤ 2 * exponent_limit }
     ensures { result ≡ pick (ltb x exponent_limit) (exponent_limit - x) (x - exponent_limit) }
 {
-    if x < EXPONENT_LIMIT {
-        (EXPONENT_LIMIT - x) as u8
-    } else {
-        (x - EXPONENT_LIMIT) as u8
-    }
+    x.abs_diff(EXPONENT_LIMIT) as u8
 }
 
 // The sign half: 1 if the number is negative, and 8 if x is.
 fn sign_half(negative: bool, x: usize) -> u8
     ensures { result ≡ pick negative 1 0 + pick (ltb x exponent_limit) 8 0 }
 {
-    let minus: u8 = if negative { 1 } else { 0 };
-    let below: u8 = if x < EXPONENT_LIMIT { 8 } else { 0 };
-    minus + below
-}
-
-// The sign half of a column, if it has one, and its digits, as one run of half bytes.
-fn signed_run(image: Image, truncation: Truncation) -> u64
-    requires { Held image truncation }
-    ensures { result ≡ packed_of (sign_halves image.sign (held_by truncation) ++ digits_of (hashes image) (held_by truncation).whole) }
-{
-    let sign = image.sign;
-    if sign_count(sign) == 0 {
-        return truncation.halves;
-    }
-    let half = sign_half(truncation.negative, truncation.x) as u64;
-    (half << (4 * hash_count(image))) | truncation.halves
+    u8::from(negative) + 8 * u8::from(x < EXPONENT_LIMIT)
 }
 
 // The two digits of |x| as half bytes.
+#[tactic(auto, using(crate::proofs::RunLaws::exponent_made, crate::proofs::HalfLaws::exponent_size_few), unfolding(crate::specs::Packing::exponent_size))]
 fn exponent_run(x: usize) -> u64
     requires { x ≤ 2 * exponent_limit }
     ensures { result ≡ packed_of (exponent_halves true (zero_at x)) }
 {
-    let size = exponent_size(x) as u64;
+    let size = u64::from(exponent_size(x));
     (size / 10) << 4 | (size % 10)
 }
 
-// A column as one run of half bytes: the sign half and the digits, then two digits of |x| if it is exponential, then a zero half if their
-// count is odd.
-fn column_run(image: Image, truncation: Truncation) -> u64
-    requires { Held image truncation }
-    ensures { result ≡ packed_of (column_halves image (held_by truncation)) }
-{
-    let mut run = signed_run(image, truncation);
-    if image.exponential {
-        run = (run << 8) | exponent_run(truncation.x);
+// A number truncated under an image, of which a column and a text can be made.
+#[derive(Clone, Copy)]
+pub(crate) struct HeldNumber {
+    pub(crate) image: Image,
+    pub(crate) truncation: Truncation,
+    ghost held: { Held image truncation },
+}
+
+impl HeldNumber {
+    // The sign half of a column, if it has one, and its digits, as one run of half bytes.
+    #[tactic(auto, using(crate::proofs::RunLaws::run_digits), unfolding(crate::specs::Packing::sign_halves))]
+    fn signed_run(&self) -> u64
+        ensures { result ≡ packed_of (sign_halves self.now.image.sign (held_by self.now.truncation) ++ digits_of (hashes self.now.image) (held_by self.now.truncation).whole) }
+    {
+        let truncation = self.truncation;
+        if self.image.sign == Sign::Unsigned {
+            truncation.halves
+        } else {
+            let half = u64::from(sign_half(truncation.negative, truncation.x));
+            (half << (4 * self.image.hashes())) | truncation.halves
+        }
     }
-    run << (4 * (half_count(image) % 2))
+
+    // A column as one run of half bytes: the sign half and the digits, then two digits of |x| if it is exponential, then a zero half if
+    // their count is odd.
+    fn column_run(&self) -> u64
+        ensures { result ≡ packed_of (column_halves self.now.image (held_by self.now.truncation)) }
+    {
+        let mut run = self.signed_run();
+        if self.image.exponential {
+            run = (run << 8) | exponent_run(self.truncation.x);
+        }
+        run << (4 * (half_count(self.image) % 2))
+    }
 }
 
 // Writes a column, which is the whole target.
+#[tactic(auto, using(crate::proofs::FitLaws::truncation_ok, crate::proofs::FitLaws::truncation_held_by, crate::proofs::RunLaws::run_column, crate::proofs::RunLaws::run_room))]
 fn write_column(image: Image, number: Number, target: &mut [u8])
     requires { (Fit image number) × (length target.old ≡ column_size image) }
     ensures { target.new ≡ column_bytes image (truncated_to image number) }
 {
     let truncation = truncate(image, number, 0).unwrap();
-    write_run(column_run(image, truncation), target);
+    let held = HeldNumber { image, truncation };
+    write_run(held.column_run(), target);
 }
 
-// Whether all numbers can be packed, each under its image; refused from the left with 3, 4, 5 and the column.
+// Whether numbers can be packed, each under its image; refused from the left with 3, 4, 5 and the column.
+#[tactic(auto, using(crate::proofs::BodyLaws::columns_turn, crate::proofs::BodyLaws::columns_refused), unfolding(decimal::specs::Answer::checked_only, crate::specs::Packing::pack_columns))]
 fn check_numbers(images: &[Image], numbers: &[Number]) -> Result<(), Refusal>
-    requires { length images.now ≡ length numbers.now }
     ensures { meaning result ≡ checked_only (pack_columns 0 images.now numbers.now) }
 {
-    for (column, image) in images.iter().enumerate() {
-        fit_packed(*image, numbers[column], column)?;
+    for (column, (image, number)) in images.iter().zip(numbers).enumerate() {
+        fit_packed(*image, *number, column)?;
     }
     Ok(())
 }
 
-// Writes the columns of numbers that can be packed, one behind the other.
-// The loop goes by column numbers: it takes from two lists, and a proof knows no element of their zip.
+// Writes the columns of numbers that can be packed, one behind the other. They go by a place, since a proof knows no byte of parts that a
+// loop takes off with split_at_mut.
 fn write_columns(images: &[Image], numbers: &[Number], body: &mut [u8])
     requires { (AllPack images.now numbers.now) × (length body.old ≡ body_size images.now) }
     ensures { pack_columns 0 images.now numbers.now ≡ done body.new }
 {
     let mut at = 0;
-    for column in 0..images.len() {
-        let end = at + column_size(images[column]);
-        write_column(images[column], numbers[column], &mut body[at..end]);
+    for (image, number) in images.iter().zip(numbers) {
+        let end = at + column_size(*image);
+        write_column(*image, *number, &mut body[at..end]);
         at = end;
     }
 }
@@ -127,6 +132,7 @@ pub fn pack_under(images: &[Image], numbers: &[Number], buffer: &mut [u8]) -> Re
 }
 
 // Packs a list under a contents lent alone into a buffer, as pack_under does; refused first as the contents is.
+#[tactic(auto, using(decimal::proofs::AnswerLaws::mapped_refused_back, crate::proofs::UnderLaws::packing_lent, crate::proofs::BodyLaws::packing_contents), unfolding(crate::specs::Answers::stored_in, crate::specs::Answers::sized))]
 pub fn pack(contents: &[u8], numbers: &[Number], buffer: &mut [u8]) -> Result<usize, Refusal>
     ensures answer { meaning result ≡ sized (packing contents.now numbers.now (length buffer.old)) }
     ensures bytes { buffer.new ≡ stored_in (packing contents.now numbers.now (length buffer.old)) buffer.old }

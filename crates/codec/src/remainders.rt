@@ -18,19 +18,20 @@ pub struct Packed {
     pub remainders: Remainders,
 }
 
-// What truncation cuts off numbers that can be packed, each under its image.
+// What truncation cuts off numbers that can be packed, each under its image. That they are at most 16 stands here as at body_size.
 fn cut_off(images: &[Image], numbers: &[Number]) -> Remainders
     requires { (length images.now ≤ max_columns) × AllPack images.now numbers.now }
     ensures { cut_columns 0 images.now numbers.now ≡ done result.items }
 {
     let mut remainders = Remainders::new();
-    for (column, image) in images.iter().enumerate() {
-        remainders.push(remainder_of(*image, numbers[column], column).unwrap());
+    for (image, number) in images.iter().zip(numbers) {
+        remainders.push(remainder_of(*image, *number, 0).unwrap());
     }
     remainders
 }
 
 // Packs a list under a contents lent alone into a buffer, as pack does, and gives what truncation cut off each number; refused as pack is.
+#[tactic(auto, using(crate::proofs::UnderLaws::packing_lent, crate::proofs::BodyLaws::packing_contents, crate::proofs::RemainderLaws::left_refused, crate::proofs::RemainderLaws::remainders_found), unfolding(decimal::specs::Answer::mapped, crate::specs::Answers::stored_in, crate::specs::Answers::sized, crate::specs::Remainders::packing_remainders))]
 pub fn pack_with_remainders(
     contents: &[u8],
     numbers: &[Number],

@@ -38,16 +38,16 @@ pub struct TextNumber {
     pub used: usize,
 }
 
-// The answer for what is no text number.
-pub const NO_NUMBER: Result<Number, Refusal> = Err(Refusal {
+// The refusal of what is no text number.
+pub const NO_NUMBER: Refusal = Refusal {
     reason: Reason::NotText,
     place: 0,
-});
+};
 
 // No text number: no byte is used.
 pub(crate) const NO_READING: Reading = Reading {
     used: 0,
-    number: NO_NUMBER,
+    number: Err(NO_NUMBER),
 };
 
 // Digits that were read, as a whole number, and how many they are.
@@ -57,7 +57,7 @@ struct DigitRun {
     count: usize,
 }
 
-// In the next three no byte used says that there is nothing: what stands behind it is then at the same place, with no case of its own.
+// In the next two no byte used says that there is nothing: what stands behind it is then at the same place, with no case of its own.
 
 // A point and digits behind it, or nothing: the whole number that all digits now make, the digits behind the point, the bytes used.
 #[derive(Clone, Copy)]
@@ -86,6 +86,7 @@ struct Numeral {
 }
 
 // The sign that a text begins with.
+#[tactic(auto, using(crate::proofs::TextLaws::sign_none, crate::proofs::TextLaws::sign_some))]
 fn leading_sign(text: &[u8]) -> Sign
     ensures { result ≡ sign_in text.now }
 {
@@ -96,13 +97,15 @@ fn leading_sign(text: &[u8]) -> Sign
 }
 
 // Whether a sign is a minus.
+#[tactic(auto, unfolding(crate::specs::Text::is_minus))]
 fn is_minus(sign: Sign) -> bool
     ensures { result ≡ is_minus sign }
 {
-    matches!(sign, Sign::Minus)
+    sign == Sign::Minus
 }
 
 // At most so many digits that a text begins with: their count, and the value of start with these digits behind it.
+#[tactic(auto, using(crate::proofs::TextLaws::running_fits, crate::proofs::TextLaws::running_other, crate::proofs::TextLaws::running_full))]
 fn digit_run(text: &[u8], most: usize, start: u64) -> DigitRun
     requires { DigitsFit start most }
     ensures { RunFound text.now most start result.value result.count }
@@ -113,7 +116,7 @@ fn digit_run(text: &[u8], most: usize, start: u64) -> DigitRun
         if !byte.is_ascii_digit() {
             return DigitRun { value, count };
         }
-        value = value * 10 + (*byte - b'0') as u64;
+        value = value * 10 + u64::from(*byte - b'0');
     }
     DigitRun {
         value,
@@ -121,7 +124,7 @@ fn digit_run(text: &[u8], most: usize, start: u64) -> DigitRun
     }
 }
 
-// A point that a text begins with and at most so many digits behind it, which are appended to the value start; nothing if there is no point.
+// A point that a text begins with and at most so many digits behind it, appended to the value start; nothing if there is no point.
 fn leading_fraction(text: &[u8], most: usize, start: u64) -> Fraction
     requires { DigitsFit start most }
     ensures { FractionFound text.now most start result.value result.count result.used }
@@ -164,6 +167,7 @@ fn leading_power(text: &[u8]) -> Power
 }
 
 // The numeral that a text begins with; there may be no digit.
+#[tactic(auto, using(crate::proofs::TextLaws::run_few, crate::proofs::TextLaws::run_held, crate::proofs::TextLaws::fraction_most, crate::proofs::TextLaws::fraction_inside, crate::proofs::TextLaws::power_inside))]
 fn leading_numeral(text: &[u8]) -> Numeral
     ensures { NumeralFound text.now result }
 {
@@ -204,6 +208,7 @@ pub(crate) fn read_text(text: &[u8]) -> Reading
 }
 
 // The length of the longest beginning of a text that has the form of a text number, 0 if none.
+#[tactic(auto, using(crate::proofs::TextLaws::read_used_lem))]
 pub fn legal_length(text: &[u8]) -> usize
     ensures { result ≡ legal_length text.now }
 {
@@ -212,6 +217,7 @@ pub fn legal_length(text: &[u8]) -> usize
 
 // The number of the longest beginning that has the form, and the bytes used; refused with 8 where there is none, with 5 where its exponent
 // is outside its limits.
+#[tactic(auto, using(crate::proofs::TextLaws::reads_number, crate::proofs::TextLaws::reads_refused))]
 pub fn read_text_number(text: &[u8]) -> Result<TextNumber, Refusal>
     ensures { meaning result ≡ read_text text.now }
 {
@@ -224,13 +230,16 @@ pub fn read_text_number(text: &[u8]) -> Result<TextNumber, Refusal>
 }
 
 // The number of a whole text, where reading it uses all bytes; where bytes are left over, 8, ahead of 5.
+#[tactic(auto, unfolding(crate::specs::Text::convert_text))]
 pub fn convert(text: &[u8]) -> Result<Number, Refusal>
     ensures { meaning result ≡ convert_text text.now }
 {
     let reading = read_text(text);
+    // By name, for the edits rest_ignored and five_before_eight.
     let is_left_over = reading.used != text.len();
     if is_left_over {
-        return NO_NUMBER;
+        Err(NO_NUMBER)
+    } else {
+        reading.number
     }
-    reading.number
 }

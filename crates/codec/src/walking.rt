@@ -7,8 +7,8 @@ use crate::lists::Numbers;
 use crate::text::{NO_READING, Reading, read_text};
 use decimal::{Refusal, leading_run};
 
-// A walk over a lent text: the text, and the place where it goes on.
-#[derive(Clone, Copy)]
+// A walk over a lent text: the text, and the place where it goes on, document 01's form.
+#[derive(Clone, Copy, Debug, PartialEq, Eq, Hash)]
 pub struct Walker<'a> {
     text: &'a [u8],
     place: usize,
@@ -34,6 +34,7 @@ pub struct Walked {
 // A place may lie past the text's end, where no rest can be lent; so the functions below take the whole text and a place.
 
 // The longest beginning from a place on that is a text number, and its number; 8 with no byte used where there is none, as at the end.
+#[tactic(auto, using(crate::proofs::WalkLaws::reading_end))]
 fn read_at(text: &[u8], place: usize) -> Reading
     ensures { reading_meaning result ≡ reading_in (drop place text.now) }
 {
@@ -46,6 +47,7 @@ fn read_at(text: &[u8], place: usize) -> Reading
 // The next place, from one on, where a text number begins; the text's end where there is none, a place past the end as it is.
 // A text number begins at blanks exactly where one begins behind them, so each run of blanks is read once.
 // The loop goes by places, of which one is the answer; the steps have different lengths.
+#[tactic(auto, using(decimal::proofs::StepLaws::run_inside, crate::proofs::WalkLaws::skip_ends), unfolding(crate::specs::Walking::number_place))]
 pub fn next_number_place(text: &[u8], from: usize) -> usize
     ensures { result ≡ number_place text.now from }
 {
@@ -66,21 +68,24 @@ pub fn next_number_place(text: &[u8], from: usize) -> usize
 
 // Why no number is read at a place where so many bytes would be used.
 // It takes the whole text, as read_at does: a place may lie past the end, where no rest can be lent.
+#[tactic(auto, using(crate::proofs::WalkLaws::stop_end, crate::proofs::WalkLaws::stop_none, crate::proofs::WalkLaws::stop_many))]
 fn why_stopped(text: &[u8], place: usize, used: usize) -> Stop
     requires { used ≡ legal_length (drop place text.now) }
     ensures { result ≡ stop_before (drop place text.now) }
 {
     if text.len() <= place {
-        return Stop::End;
+        Stop::End
+    } else if used == 0 {
+        Stop::NoNumber
+    } else {
+        Stop::TooMany
     }
-    if used == 0 {
-        return Stop::NoNumber;
-    }
-    Stop::TooMany
 }
 
 // All text numbers of a text from a place on, in order, up to COLUMNS. A number refused with 5 has its index for its place.
-// The loop goes by places, of which the last is part of the answer, and may lie past the end.
+// The loop goes by places, of which the last is part of the answer, and may lie past the end: a Walker would go on behind a number that
+// is not taken.
+#[tactic(auto, using(crate::proofs::WalkLaws::used_inside, crate::proofs::WalkLaws::collecting_starts, crate::proofs::WalkLaws::collecting_turns))]
 pub fn read_text_numbers(text: &[u8], from: usize) -> Walked
     ensures { walk_of result ≡ walking text.now from }
 {
@@ -112,33 +117,35 @@ pub fn read_text_numbers(text: &[u8], from: usize) -> Walked
     }
 }
 
-// A walker over a text, at its start.
-pub fn walker_over<'a>(text: &'a [u8]) -> Walker<'a>
-    ensures { (result.text ≡ text.entry) × (result.place ≡ 0) }
-{
-    Walker { text, place: 0 }
-}
+impl<'a> Walker<'a> {
+    // A walker over a text, at its start.
+    pub fn new(text: &'a [u8]) -> Walker<'a>
+        ensures { (result.text ≡ text.entry) × (result.place ≡ 0) }
+    {
+        Walker { text, place: 0 }
+    }
 
-// The place where a walker goes on.
-pub fn walker_place<'a>(walker: Walker<'a>) -> usize
-    ensures { result ≡ walker.entry.place }
-{
-    walker.place
-}
+    // The place where the walk goes on.
+    pub fn place(&self) -> usize
+        ensures { result ≡ self.now.place }
+    {
+        self.place
+    }
 
-// The next text number from a walker's place, with the bytes used, and the walker moved on behind them.
-pub fn next_text_number<'s, 'a>(walker: &'s mut Walker<'a>) -> Reading
-    ensures { (reading_meaning result ≡ reading_in (ahead_of walker.old)) × (walker.new ≡ moved_on walker.old) }
-{
-    let place = walker.place;
-    let reading = read_at(walker.text, place);
-    walker.place = place + reading.used;
-    reading
-}
+    // The next text number from the walker's place, with the bytes used; the walker is moved on behind them.
+    #[tactic(auto, using(crate::proofs::TextLaws::read_used_lem, crate::proofs::WalkLaws::moved_fits))]
+    pub fn next_number(&mut self) -> Reading
+        ensures { (reading_meaning result ≡ reading_in (ahead_of self.old)) × (self.new ≡ moved_on self.old) }
+    {
+        let reading = read_at(self.text, self.place);
+        self.place += reading.used;
+        reading
+    }
 
-// A walker moved on to the next place where a text number begins.
-pub fn skip_to_number<'s, 'a>(walker: &'s mut Walker<'a>)
-    ensures { walker.new ≡ skipped_on walker.old }
-{
-    walker.place = next_number_place(walker.text, walker.place);
+    // Moves the walker on to the next place where a text number begins.
+    pub fn skip_to_number(&mut self)
+        ensures { self.new ≡ skipped_on self.old }
+    {
+        self.place = next_number_place(self.text, self.place);
+    }
 }

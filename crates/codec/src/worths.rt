@@ -3,7 +3,7 @@ ghost use Rattle.std.specs.Prelude.{◌≡◌, [], ◌∷◌};
 ghost use Rattle.codec.specs.Halves.{halves_of};
 ghost use Rattle.codec.specs.Unpacking.{read_on, run_meaning};
 
-// What the table has for a byte that has a half above 9.
+// What the table has for a byte that has a half above 9: 255, as document 01 says.
 const NO_WORTH: u8 = 255;
 
 // Ten times the high half plus the low half, for each byte; NO_WORTH where a half is above 9.
@@ -24,6 +24,7 @@ static WORTHS: [u8; 256] = [
 ];
 
 // Ten times the high half of a packed byte plus its low half; none where a half is above 9.
+#[tactic(auto, using(crate::proofs::WorthLaws::worths_right, crate::proofs::WorthLaws::worth_read))]
 pub(crate) fn worth(byte: u8) -> Option<u8>
     ensures { run_meaning result ≡ read_on 0 (halves_of (byte ∷ [])) }
 {

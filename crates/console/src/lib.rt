@@ -2,7 +2,7 @@
 // standard error tells it.
 #![tactic(auto)]
 
-ghost use Rattle.std.specs.Prelude.{◌≡◌, true, length, is_ok};
+ghost use Rattle.std.specs.Prelude.{◌≡◌, Ok, length};
 ghost use Rattle.console.specs.Within.{Within, Reads};
 
 use std::io;
@@ -18,7 +18,7 @@ pub fn read_from<R: Read>(reader: &mut R, buffer: &mut [u8]) -> io::Result<usize
     while size < buffer.len() {
         let more = reader.read(&mut buffer[size..])?;
         if more == 0 {
-            return Ok(size);
+            break;
         }
         size += more;
     }
@@ -29,32 +29,24 @@ pub fn read_from<R: Read>(reader: &mut R, buffer: &mut [u8]) -> io::Result<usize
 pub fn read_input(rt: &(impl io::Input + Eprint), buffer: &mut [u8]) -> io::Result<usize>
     ensures { Within result buffer.new }
 {
-    let read = read_from(&mut rt.reader(), buffer);
-    if read.is_err() {
-        tell(rt, "reading standard input failed\n");
-    }
-    read
+    read_from(&mut rt.reader(), buffer).inspect_err(|_| tell(rt, "reading standard input failed\n"))
 }
 
-// Writes bytes to standard output, and gives whether all are written, as no bytes are from the start; a failed write is told.
-pub fn write_output(rt: &(impl Print + Eprint), bytes: &[u8]) -> bool
-    ensures { length bytes.now ≡ 0 → result ≡ true }
+// Writes bytes to standard output, which writing no bytes can't fail; a failed write is told.
+pub fn write_output(rt: &(impl Print + Eprint), bytes: &[u8]) -> io::Result<()>
+    ensures { length bytes.now ≡ 0 → result ≡ Ok tt }
 {
-    if bytes.len() == 0 {
-        return true;
+    if bytes.is_empty() {
+        return Ok(());
     }
-    is_written(rt, rt.write_all(bytes))
+    told(rt, rt.write_all(bytes))
 }
 
-// Whether writing gave no error; a failed write is told.
-pub fn is_written(rt: &impl Eprint, written: io::Result<()>) -> bool
-    ensures { result ≡ is_ok written }
+// What writing to standard output gave, as it is; a failed write is told.
+pub fn told(rt: &impl Eprint, written: io::Result<()>) -> io::Result<()>
+    ensures { result ≡ written }
 {
-    if written.is_ok() {
-        return true;
-    }
-    tell(rt, "writing standard output failed\n");
-    false
+    written.inspect_err(|_| tell(rt, "writing standard output failed\n"))
 }
 
 // Writes a line to standard error, where that can be written.

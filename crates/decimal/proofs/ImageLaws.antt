@@ -14,8 +14,8 @@ use Rattle.decimal.specs.Image.{State, Start, Signed, Integer, Comma, Point, Fra
 use Rattle.decimal.specs.Image.{plus_byte, minus_byte, hash_byte, point_byte}
 use Rattle.decimal.specs.Image.{sign_bytes, times, fraction_bytes, up_bytes, image_bytes, hashes, IsImage}
 use Rattle.decimal.specs.Image.{next_state, run_state, is_image, is_exponential, integer_hash, fraction_hash, counted, integers_from, fractions_from}
-use Rattle.decimal.specs.Image.{sign_of, leading_sign, check_image, scanned_image, Scanned, read_image, ReadsAs, within, too_many, no_image}
-use Rattle.decimal.proofs.AnswerLaws.{never, one_answer}
+use Rattle.decimal.specs.Image.{sign_of, leading_sign, check_digits, check_image, scanned_image, Scanned, read_image, ReadsAs, within, too_many, no_image}
+use Rattle.decimal.proofs.AnswerLaws.{never, never_done, one_answer}
 use Rattle.decimal.proofs.ImageTails.{key, some_image}
 
 -- n times a byte are n bytes
@@ -220,6 +220,37 @@ hash_once (Fraction g) p q = omega arith
 hash_once (Up n) p q = omega arith
 hash_once Stopped p q = omega arith
 
+-- so the # signs are no more than the bytes
+pub hashes_from : (s : State) (bs : List ℕ) → integers_from s bs + fractions_from s bs ≤ length bs
+unfolding integers_from fractions_from
+hashes_from s [] = omega arith
+hashes_from s (b ∷ bs) = go (next_state s b) (hashes_from (next_state s b) bs)
+  where
+    one : (t : Bool) (n : ℕ) → counted t n ≡ counted t 0 + n
+    one true n = omega arith
+    one false n = omega arith
+
+    go : (t : State) → integers_from t bs + fractions_from t bs ≤ length bs
+        → counted (integer_hash t) (integers_from t bs) + counted (fraction_hash t) (fractions_from t bs) ≤ suc (length bs)
+    go t ih =
+        let i = one (integer_hash t) (integers_from t bs) in
+        let f = one (fraction_hash t) (fractions_from t bs) in
+        let h : counted (integer_hash t) 0 + counted (fraction_hash t) 0 ≤ 1 = hash_once t refl refl in
+        omega arith
+
+-- The check of a count of # signs.
+
+-- what it refuses is more, and refused with 2
+pub digits_many : {number at_place : ℕ} (place n : ℕ) → refused number at_place ≡ check_digits place n
+    → (precision < n) × (number ≡ 2) × (at_place ≡ place)
+unfolding check_digits
+digits_many {number} {at_place} place n = go (ltb precision n) refl
+  where
+    go : (t : Bool) → ltb precision n ≡ t → refused number at_place ≡ check_digits place n
+        → (precision < n) × (number ≡ 2) × (at_place ≡ place)
+    go true h e = let same : ◌≡◌ {A = Answer (Unit {0})} (refused number at_place) (refused 2 place) = e ∙ rw h in (ltb-true _ _ h, cc, cc)
+    go false h e = never_done {number = number} {place = at_place} (e ∙ rw h)
+
 -- What the reader makes of a scan.
 
 -- bytes that are accepted are at least one
@@ -238,6 +269,10 @@ module _ {bytes : List ℕ} {scan : Scan} (s : Scanned bytes scan) where
   -- where the last state is an image's, the bytes are accepted
   pub scan_accepted : {t : Bool} → is_image (state_of scan.state) ≡ t → is_image (run_state Start bytes) ≡ t
   scan_accepted h = sym (ap is_image s.ended) ∙ h
+
+  -- a scan has no more # signs than bytes
+  pub scan_few : scan.integer + scan.fraction ≤ length bytes
+  scan_few = omega (arith, s.integers, s.fractions, hashes_from Start bytes)
 
   -- and with more than precision # signs they are refused with 2
   pub scan_many : (place : ℕ) → is_image (state_of scan.state) ≡ true → precision < scan.integer + scan.fraction

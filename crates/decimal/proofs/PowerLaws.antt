@@ -1,8 +1,7 @@
 -- Powers of ten.
 -- Assumes nothing.
-use Rattle.std.proofs.Common.{◌≡◌, ℕ, suc, ◌+◌, ◌-◌, ◌*◌, ◌^◌, ◌<◌, ◌≤◌, ltb, sym, ap, ◌∙◌, le-mul_of_pos_right, mul_left_comm, arith, pow-add, le-ltb, lt-ltb}
+use Rattle.std.proofs.Common.{◌≡◌, ℕ, suc, ◌+◌, ◌-◌, ◌*◌, ◌^◌, ◌<◌, ◌≤◌, ap, ◌∙◌, le-mul_of_pos_right, mul_left_comm, arith, pow-add, le-ltb, lt-ltb}
 use native.Mathlib.Nat.{one-le-pow, pow-succ', pow-le-pow_right}
-use Rattle.decimal.specs.Answer.{pick}
 use Rattle.decimal.specs.Digits.{precision, power_of_ten}
 
 -- a power of ten is not zero
@@ -42,8 +41,3 @@ power_left count e = e ∙ power_small (precision - count) (omega arith)
 pub power_large : (e : ℕ) → 20 ≤ e → power_of_ten e ≡ 0
 unfolding power_of_ten
 power_large e h = rw (le-ltb e 20 h)
-
--- an exponent's power is that of the key that it equals, which antt computes
-pub power_at : {e k : ℕ} → e ≡ k → pick (ltb k 20) (10 ^ k) 0 ≡ power_of_ten e
-unfolding power_of_ten
-power_at h = ap power_of_ten (sym h)

@@ -260,6 +260,10 @@ unfoldable pub leading_sign : List ℕ → Sign
 leading_sign [] = Unsigned
 leading_sign (b ∷ bs) = sign_of b
 
+-- n is at most 13 (2)
+unfoldable pub check_digits : ℕ → ℕ → Answer (Unit {0})
+check_digits place n = pick (nat_lt precision n) (refused 2 place) (done tt)
+
 -- an image with no # is none (1), and n is at most 13 (2)
 unfoldable pub check_image : ℕ → Image → Answer Image
 check_image place im =

@@ -9,6 +9,7 @@ use crate::refusal::Refusal;
 use std::cmp::Ordering;
 
 // The order of two numbers by value; refused with 3 where one is not in normal form, with place 0 for the first, 1 for the second.
+#[tactic(auto, using(crate::proofs::ComparisonLaws::compared, crate::proofs::ComparisonLaws::first_refused, crate::proofs::ComparisonLaws::second_refused))]
 pub fn compare(first: Number, second: Number) -> Result<Ordering, Refusal>
     ensures { meaning result ≡ comparison first second }
 {
@@ -18,7 +19,8 @@ pub fn compare(first: Number, second: Number) -> Result<Ordering, Refusal>
 }
 
 // The order of two numbers in normal form: the signs decide where they differ, else the magnitudes.
-// The form stands in the contract and not in a type: anyone can fill a Number in, and compare takes any.
+// The form stands in the contract and not in a type, which would be made here and taken apart in the next function.
+#[tactic(auto, using(crate::proofs::ComparisonLaws::minus_first, crate::proofs::ComparisonLaws::minus_second, crate::proofs::ComparisonLaws::minus_both, crate::proofs::ComparisonLaws::minus_none))]
 fn value_order(first: Number, second: Number) -> Ordering
     requires { (normal first ≡ true) × (normal second ≡ true) }
     ensures { result ≡ value_order first second }
@@ -32,6 +34,7 @@ fn value_order(first: Number, second: Number) -> Ordering
 }
 
 // The order of the magnitudes of two numbers in normal form: zero is least; else the exponents decide, then the mantissas.
+#[tactic(auto, using(crate::proofs::ComparisonLaws::zero_decides, crate::proofs::ComparisonLaws::exponents_first), unfolding(crate::specs::Comparison::whole_order))]
 fn magnitude_order(first: Number, second: Number) -> Ordering
     requires { (normal first ≡ true) × (normal second ≡ true) }
     ensures { result ≡ whole_order (magnitude first) (magnitude second) }

@@ -10,7 +10,8 @@ pub const PRECISION: usize = 13;
 // 2^63. A difference of two numbers below it, modulo 2^64, is below it too exactly where it has not gone below zero.
 const HALF_RANGE: u64 = 1 << 63;
 
-// A digit so far: how many times a power of ten was taken off a whole number, what is left, and how many subtractions were made.
+// A digit so far: how many times a power of ten was taken off a whole number, what is left, and how many subtractions were made, which
+// document 02, (iv), limits.
 #[derive(Clone, Copy)]
 struct Taken {
     digit: u64,
@@ -28,16 +29,17 @@ fn subtract(taken: Taken, power: u64, times: u64) -> Taken
     let less = std::num::wrapping_sub_u64(rest, multiple);
     let subtractions = taken.subtractions + 1;
     if less < HALF_RANGE {
-        return Taken {
+        Taken {
             digit: taken.digit + times,
             rest: less,
             subtractions,
-        };
-    }
-    Taken {
-        digit: taken.digit,
-        rest,
-        subtractions,
+        }
+    } else {
+        Taken {
+            digit: taken.digit,
+            rest,
+            subtractions,
+        }
     }
 }
 
@@ -59,6 +61,7 @@ fn take_digit(whole: u64, power: u64) -> Taken
 }
 
 // The first count digits of a mantissa as half bytes, the first digit highest.
+// The loop goes by counts, and subtract takes its difference as it does, since the gate's search for divisions allows no other call.
 pub(crate) fn packed_digits(mantissa: u64, count: usize) -> u64
     requires { (mantissa < 10 ^ precision) × (count ≤ precision) }
     ensures { result ≡ packed_of (take count (digits_of precision mantissa)) }

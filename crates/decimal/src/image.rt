@@ -1,6 +1,7 @@
 // Images and the state machine that reads them (document 01: Images). The scanner of print lines uses the same machine.
-ghost use Rattle.std.specs.Prelude.{◌≡◌};
+ghost use Rattle.std.specs.Prelude.{◌≡◌, ◌≤◌, OnOk};
 ghost use Rattle.decimal.specs.Answer.{meaning};
+ghost use Rattle.decimal.specs.Digits.{precision};
 ghost use Rattle.decimal.specs.Image.{
   state_of,
   after_sign,
@@ -16,6 +17,8 @@ ghost use Rattle.decimal.specs.Image.{
   counted,
   leading_run,
   sign_of,
+  hashes,
+  check_digits,
   check_image,
   Scanned,
   read_image,
@@ -84,6 +87,7 @@ struct Scan {
 }
 
 // The state after one more byte.
+#[tactic(auto, unfolding(crate::specs::Image::next_state))]
 pub fn next_state(state: State, byte: u8) -> State
     ensures { state_of result ≡ next_state (state_of state) byte }
 {
@@ -158,40 +162,27 @@ fn after_up(state: State) -> State
 fn is_image(state: State) -> bool
     ensures { result ≡ is_image (state_of state) }
 {
-    match state {
-        State::Integer | State::Fraction | State::Exponential => true,
-        _ => false,
-    }
+    matches!(state, State::Integer | State::Fraction | State::Exponential)
 }
 
-// 1 where a state says that the last byte is a # before the point, else 0.
-pub fn integer_hash(state: State) -> usize
-    ensures { result ≡ counted (integer_hash (state_of state)) 0 }
+// What a state says of the last byte: 1 and 0 for a # before the point, 0 and 1 for a # behind it, else 0 and 0.
+pub fn hash_counts(state: State) -> (usize, usize)
+    ensures integer { result.0 ≡ counted (integer_hash (state_of state)) 0 }
+    ensures fraction { result.1 ≡ counted (fraction_hash (state_of state)) 0 }
 {
-    match state {
-        State::Integer | State::Grouped => 1,
-        _ => 0,
-    }
-}
-
-// 1 where a state says that the last byte is a # behind the point, else 0.
-pub fn fraction_hash(state: State) -> usize
-    ensures { result ≡ counted (fraction_hash (state_of state)) 0 }
-{
-    match state {
-        State::Fraction | State::GroupedFraction => 1,
-        _ => 0,
-    }
+    let before = matches!(state, State::Integer | State::Grouped);
+    let behind = matches!(state, State::Fraction | State::GroupedFraction);
+    (usize::from(before), usize::from(behind))
 }
 
 // Whether the last byte is a 5E; for the state of an image, whether the image is exponential.
 pub fn is_exponential(state: State) -> bool
     ensures { result ≡ is_exponential (state_of state) }
 {
-    match state {
-        State::FirstUp | State::SecondUp | State::ThirdUp | State::Exponential => true,
-        _ => false,
-    }
+    matches!(
+        state,
+        State::FirstUp | State::SecondUp | State::ThirdUp | State::Exponential
+    )
 }
 
 // The sign that a byte is; Unsigned for any other byte.
@@ -205,24 +196,44 @@ pub fn sign_of(byte: u8) -> Sign
     }
 }
 
+// Whether an image can have so many # signs: refused with 2 where they are more than PRECISION.
+#[tactic(auto, unfolding(crate::specs::Image::check_digits))]
+pub fn check_digits(count: usize, place: usize) -> Result<(), Refusal>
+    ensures few { OnOk result (count ≤ precision) }
+    ensures answer { meaning result ≡ check_digits place count }
+{
+    // By name, for the edit fourteen_digits.
+    let many = PRECISION < count;
+    if many {
+        return Err(Refusal {
+            reason: Reason::TooManyDigits,
+            place,
+        });
+    }
+    Ok(())
+}
+
 impl Image {
+    // The count of # signs, document 01's n.
+    pub fn hashes(self) -> usize
+        ensures { result ≡ hashes self }
+    {
+        usize::from(self.integer) + usize::from(self.fraction)
+    }
+
     // The image itself, refused with 1 where it has no #, with 2 where it has more than PRECISION.
+    #[tactic(auto, unfolding(crate::specs::Image::check_image, crate::specs::Image::check_digits))]
     pub fn checked(self, place: usize) -> Result<Image, Refusal>
         ensures { meaning result ≡ check_image place self }
     {
-        let count = self.integer as usize + self.fraction as usize;
+        let count = self.hashes();
         if count == 0 {
             return Err(Refusal {
                 reason: Reason::NotAnImage,
                 place,
             });
         }
-        if PRECISION < count {
-            return Err(Refusal {
-                reason: Reason::TooManyDigits,
-                place,
-            });
-        }
+        check_digits(count, place)?;
         Ok(self)
     }
 }
@@ -235,7 +246,7 @@ pub fn leading_run(bytes: &[u8], byte: u8) -> usize
 }
 
 // What the machine has read of bytes: its last state, and the counts of # before and behind the point.
-// A # behind a # leads to no other state, so a run of # signs is read in one step.
+// A # behind a # leads to no other state, so a run of # signs is read in one step: byte by byte, in a for, it takes twice the time.
 fn scan_bytes(bytes: &[u8]) -> Scan
     ensures { Scanned bytes.now result }
 {
@@ -246,8 +257,9 @@ fn scan_bytes(bytes: &[u8]) -> Scan
     while let [first, ..] = rest {
         state = next_state(state, *first);
         let step = leading_run(rest, b'#').max(1);
-        integer += step * integer_hash(state);
-        fraction += step * fraction_hash(state);
+        let (before, behind) = hash_counts(state);
+        integer += step * before;
+        fraction += step * behind;
         rest = &rest[step..];
     }
     Scan {
@@ -258,27 +270,22 @@ fn scan_bytes(bytes: &[u8]) -> Scan
 }
 
 // Bytes read as an image; refused with 1 where they are none, with 2 where there are more than PRECISION # signs.
+#[tactic(auto, using(crate::proofs::ImageLaws::accepted_some, crate::proofs::ImageLaws::scan_few, crate::proofs::ImageLaws::scan_many, crate::proofs::ImageLaws::scan_image, crate::proofs::ImageLaws::digits_many), unfolding(crate::specs::Image::read_image))]
 pub fn read_image(bytes: &[u8], place: usize) -> Result<Image, Refusal>
     ensures { meaning result ≡ read_image place bytes.now }
 {
     let scan = scan_bytes(bytes);
-    let state = scan.state;
-    if is_image(state) {
-        if PRECISION < scan.integer || PRECISION - scan.integer < scan.fraction {
-            return Err(Refusal {
-                reason: Reason::TooManyDigits,
-                place,
-            });
-        }
-        return Ok(Image {
-            sign: sign_of(bytes[0]),
-            integer: scan.integer as u8,
-            fraction: scan.fraction as u8,
-            exponential: is_exponential(state),
+    if !is_image(scan.state) {
+        return Err(Refusal {
+            reason: Reason::NotAnImage,
+            place,
         });
     }
-    Err(Refusal {
-        reason: Reason::NotAnImage,
-        place,
+    check_digits(scan.integer + scan.fraction, place)?;
+    Ok(Image {
+        sign: sign_of(bytes[0]),
+        integer: scan.integer as u8,
+        fraction: scan.fraction as u8,
+        exponential: is_exponential(scan.state),
     })
 }

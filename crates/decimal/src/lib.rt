@@ -13,7 +13,7 @@ mod truncation;
 pub use comparison::compare;
 pub use digits::PRECISION;
 pub use image::{
-    Image, Sign, State, fraction_hash, integer_hash, is_exponential, leading_run, next_state,
+    Image, Sign, State, check_digits, hash_counts, is_exponential, leading_run, next_state,
     read_image, sign_of,
 };
 pub use number::{EXPONENT_LIMIT, Number, SCALE};

@@ -69,14 +69,14 @@ impl Number {
         exponent: EXPONENT_TOP,
     };
 
-    // The constant ZERO.
+    // The constant ZERO, by a function, since a constant has no contract.
     pub fn zero() -> Number
         ensures { result ≡ zero_number }
     {
         Number::ZERO
     }
 
-    // The constant LARGEST.
+    // The constant LARGEST, by a function, as ZERO.
     pub fn largest() -> Number
         ensures { result ≡ largest_number }
     {
@@ -84,29 +84,24 @@ impl Number {
     }
 
     // Whether the number is in normal form.
+    #[tactic(auto, unfolding(crate::specs::Number::normal))]
     pub fn is_normal(self) -> bool
         ensures { result ≡ normal self }
     {
         if self.mantissa == 0 {
-            if self.negative {
-                return false;
-            }
-            return self.exponent == EXPONENT_LIMIT;
+            !self.negative && self.exponent == EXPONENT_LIMIT
+        } else {
+            (MANTISSA_LOW..MANTISSA_END).contains(&self.mantissa) && self.exponent <= EXPONENT_TOP
         }
-        if self.mantissa < MANTISSA_LOW {
-            return false;
-        }
-        if MANTISSA_END <= self.mantissa {
-            return false;
-        }
-        self.exponent <= EXPONENT_TOP
     }
 
     // The number itself; refused with 3 where it is not in normal form.
+    #[tactic(auto, unfolding(crate::specs::Number::check_number))]
     pub fn checked(self, place: usize) -> Result<Number, Refusal>
         ensures answer { meaning result ≡ check_number place self }
         ensures form { OnOk result (normal self ≡ true) }
     {
+        // By name, for the edit any_number_passed.
         let normal = self.is_normal();
         if normal {
             Ok(self)
@@ -136,6 +131,7 @@ impl Number {
     }
 
     // The number of a sign, a mantissa and document 01's exponent e, any value of it; refused with 3 where that is not normal.
+    #[tactic(auto, using(crate::proofs::PartsLaws::parts_above), unfolding(crate::specs::Number::parts_number))]
     pub fn from_parts(
         negative: bool,
         mantissa: u64,
@@ -144,13 +140,7 @@ impl Number {
     ) -> Result<Number, Refusal>
         ensures { meaning result ≡ parts_number place negative mantissa exponent }
     {
-        if exponent < EXPONENT_LOW {
-            return Err(Refusal {
-                reason: Reason::NotNormal,
-                place,
-            });
-        }
-        if EXPONENT_HIGH < exponent {
+        if exponent < EXPONENT_LOW || EXPONENT_HIGH < exponent {
             return Err(Refusal {
                 reason: Reason::NotNormal,
                 place,
@@ -166,6 +156,7 @@ impl Number {
 
     // The number with the magnitude whole * 10^up / 10^down, in normal form; zero is plus whatever the sign.
     // Refused with 3 where whole has more than PRECISION digits, zeros at its end too, with 5 where e is outside its limits.
+    #[tactic(auto, using(crate::proofs::DigitLaws::leading_at_most, crate::proofs::NumberLaws::shifted_below, crate::proofs::NumberLaws::shifted_above, crate::proofs::NumberLaws::shifted_done), unfolding(crate::specs::Number::scaled_number))]
     pub fn from_scaled(
         negative: bool,
         whole: u64,
@@ -185,15 +176,11 @@ impl Number {
             return Ok(Number::ZERO);
         }
         let shifted = shift_left(whole);
-        let high = SCALE + up as usize;
-        let low = down as usize + shifted.zeros;
-        if high < low {
-            return Err(Refusal {
-                reason: Reason::ExponentOutside,
-                place,
-            });
-        }
-        if EXPONENT_TOP < high - low {
+        let high = SCALE + usize::from(up);
+        let low = usize::from(down) + shifted.zeros;
+        // By name, for the edit exponent_above_limit.
+        let outside = high < low || EXPONENT_TOP < high - low;
+        if outside {
             return Err(Refusal {
                 reason: Reason::ExponentOutside,
                 place,
@@ -222,16 +209,18 @@ struct Shifted {
 }
 
 // Multiplies a number by 10^count if, written with PRECISION digits, it begins with at least count zeros; else leaves it.
+#[tactic(auto, using(crate::proofs::PowerLaws::power_small, crate::proofs::NumberLaws::shift_fits), unfolding(crate::specs::Number::shift_past))]
 fn shift_past(number: Shifted, count: usize) -> Shifted
     requires { (count ≤ precision) × (number.zeros ≤ precision) }
     ensures { result ≡ shift_past count number }
 {
     if power_of_ten(PRECISION - count) <= number.mantissa {
-        return number;
-    }
-    Shifted {
-        mantissa: number.mantissa * power_of_ten(count),
-        zeros: number.zeros + count,
+        number
+    } else {
+        Shifted {
+            mantissa: number.mantissa * power_of_ten(count),
+            zeros: number.zeros + count,
+        }
     }
 }
 

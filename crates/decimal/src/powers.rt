@@ -2,7 +2,9 @@
 ghost use Rattle.std.specs.Prelude.{◌≡◌};
 ghost use Rattle.decimal.specs.Digits.{power_of_ten};
 
-// Ten to the power of an exponent below 20; 0 for a larger exponent, so that it takes any and its callers, which ask below 20, test nothing.
+// Ten to the power of an exponent below 20; 0 for a larger one, so that it takes any and its callers, which ask below 20, test nothing.
+// A table, since the gate's search for divisions (document 02, (iv)) allows no call here.
+#[tactic(auto, unfolding(crate::specs::Digits::power_of_ten))]
 pub fn power_of_ten(exponent: usize) -> u64
     ensures { result ≡ power_of_ten exponent }
 {

@@ -35,6 +35,7 @@ impl Default for Remainder {
 }
 
 // The part of a mantissa below a unit: what is left of it without its whole part in that unit.
+// By itself, for the edit remainder_of_rounding, which is this line.
 fn part_below(mantissa: u64, unit: u64) -> u64
     requires { 0 < unit }
     ensures { result ≡ mantissa % unit }
@@ -43,12 +44,14 @@ fn part_below(mantissa: u64, unit: u64) -> u64
 }
 
 // What truncation under an image cuts off a number: r and its power, which is 0 for the number zero alone; refused as fit is.
+#[tactic(auto, using(crate::proofs::PowerLaws::pow10_pos, crate::proofs::KeptLaws::checked_refused, crate::proofs::RemainderLaws::power_zero, crate::proofs::RemainderLaws::power_some, crate::proofs::RemainderLaws::cut_last, crate::proofs::RemainderLaws::remainder_fit, crate::proofs::RemainderLaws::remainder_refused), unfolding(crate::specs::Remainder::cut_off))]
 pub fn remainder_of(image: Image, number: Number, place: usize) -> Result<Remainder, Refusal>
     ensures { meaning result ≡ remainder place image number }
 {
     fit(image, number, place)?;
     let fitting = Fitting { image, number };
     let whole = part_below(number.mantissa, fitting.unit());
+    // By name, for the edit power_of_truncation.
     let is_zero = number.mantissa == 0;
     let power = if is_zero { SCALE } else { number.exponent };
     Ok(Remainder { whole, power })

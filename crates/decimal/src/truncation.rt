@@ -44,73 +44,63 @@ impl Truncation {
     };
 }
 
-// A number below 1 has no digit before the point.
-const DIGITS_BELOW_ONE: usize = 0;
-
-// The count of digits before the point of a nonzero number.
+// The count of digits before the point of a nonzero number; a number below 1 has none.
 fn integer_digits(exponent: usize) -> usize
     requires { exponent ≤ 2 * exponent_limit }
     ensures { result ≡ exponent + 1 - exponent_limit }
 {
-    if exponent < EXPONENT_LIMIT {
-        return DIGITS_BELOW_ONE;
-    }
-    exponent - EXPONENT_LIMIT + 1
+    (exponent + 1).saturating_sub(EXPONENT_LIMIT)
 }
 
-// What is known of a number or an image alone stands in the contracts and not in a type: anyone can fill one in, and every call takes any.
+// Normal form stands in the contracts of the next three: a type for it would be made and taken apart again in each of their callers.
 
 // Whether a number exceeds a fixed-point image.
+#[tactic(auto, using(crate::proofs::NumberLaws::normal_range, crate::proofs::NumberLaws::normal_is_zero, crate::proofs::TruncationLaws::exceeds_zero, crate::proofs::TruncationLaws::exceeds_range))]
 fn exceeds(image: Image, number: Number) -> bool
     requires { normal number ≡ true }
     ensures { result ≡ exceedsImage image number }
 {
-    if number.mantissa == 0 {
-        return false;
-    }
-    (image.integer as usize) < integer_digits(number.exponent)
+    number.mantissa != 0 && usize::from(image.integer) < integer_digits(number.exponent)
 }
 
 // Whether the stored exponent of a number under an exponential image is outside its limits.
+#[tactic(auto, using(crate::proofs::NumberLaws::normal_top), unfolding(crate::specs::Truncation::exponent_outside))]
 fn exponent_outside(image: Image, number: Number) -> bool
     requires { normal number ≡ true }
     ensures { result ≡ exponent_outside image number }
 {
     if number.mantissa == 0 {
-        return false;
+        false
+    } else {
+        let high = number.exponent + 1;
+        let integer = usize::from(image.integer);
+        high < integer || EXPONENT_TOP < high - integer
     }
-    let high = number.exponent + 1;
-    let integer = image.integer as usize;
-    if high < integer {
-        return true;
-    }
-    EXPONENT_TOP < high - integer
 }
 
 // Whether a number in normal form is within an image's limits: refused with 5 by an exponential image, with 4 by another.
+#[tactic(auto, unfolding(crate::specs::Truncation::limited, crate::specs::Answer::checked_only))]
 fn limits(image: Image, number: Number, place: usize) -> Result<(), Refusal>
     requires { normal number ≡ true }
     ensures { meaning result ≡ checked_only (limited place image number) }
 {
-    if image.exponential {
-        if exponent_outside(image, number) {
-            return Err(Refusal {
-                reason: Reason::ExponentOutside,
-                place,
-            });
-        }
-        return Ok(());
-    }
-    if exceeds(image, number) {
-        return Err(Refusal {
+    if image.exponential && exponent_outside(image, number) {
+        Err(Refusal {
+            reason: Reason::ExponentOutside,
+            place,
+        })
+    } else if !image.exponential && exceeds(image, number) {
+        Err(Refusal {
             reason: Reason::Exceeds,
             place,
-        });
+        })
+    } else {
+        Ok(())
     }
-    Ok(())
 }
 
 // Whether a number can be truncated under an image; refused with 1 or 2 for the image, 3 for the number, 4 or 5 for the two.
+#[tactic(auto, using(crate::proofs::TruncationLaws::truncation_image_refused, crate::proofs::TruncationLaws::truncation_number_refused), unfolding(crate::specs::Answer::checked_only))]
 pub fn fit(image: Image, number: Number, place: usize) -> Result<(), Refusal>
     ensures fits { OnOk result (Fit image number) }
     ensures answer { meaning result ≡ checked_only (truncation place image number) }
@@ -121,12 +111,14 @@ pub fn fit(image: Image, number: Number, place: usize) -> Result<(), Refusal>
 }
 
 // Whether a number can be packed under an image: as fit, and an unsigned exponential image refuses a negative x with 5.
+#[tactic(auto, using(crate::proofs::TruncationLaws::packed_refused, crate::proofs::TruncationLaws::packed_signed, crate::proofs::TruncationLaws::packed_negative, crate::proofs::TruncationLaws::packed_within), unfolding(crate::specs::Answer::checked_only))]
 pub fn fit_packed(image: Image, number: Number, place: usize) -> Result<(), Refusal>
     ensures fits { OnOk result (Fit image number) }
     ensures answer { meaning result ≡ checked_only (packed_truncation place image number) }
 {
     fit(image, number, place)?;
     let fitting = Fitting { image, number };
+    // By name, for the edit negative_x_packed.
     let below = fitting.stored_exponent() < EXPONENT_LIMIT;
     if below && !is_signed(image.sign) {
         return Err(Refusal {
@@ -141,10 +133,11 @@ pub fn fit_packed(image: Image, number: Number, place: usize) -> Result<(), Refu
 fn is_signed(sign: Sign) -> bool
     ensures { result ≡ is_signed sign }
 {
-    matches!(sign, Sign::Plus | Sign::Minus)
+    sign != Sign::Unsigned
 }
 
-// An image and a number that fits it: the image can truncate it.
+// An image and a number that fits it: the image can truncate it. It is made behind fit, in two lines: a constructor would give back the
+// parts that it takes, and say so by two equations.
 #[derive(Clone, Copy)]
 pub(crate) struct Fitting {
     pub(crate) image: Image,
@@ -158,13 +151,11 @@ impl Fitting {
     fn stored_exponent(&self) -> usize
         ensures { result ≡ stored_exponent self.now.image self.now.number }
     {
-        if self.number.mantissa == 0 {
-            return EXPONENT_LIMIT;
+        if self.number.mantissa != 0 && self.image.exponential {
+            self.number.exponent + 1 - usize::from(self.image.integer)
+        } else {
+            EXPONENT_LIMIT
         }
-        if self.image.exponential {
-            return self.number.exponent + 1 - self.image.integer as usize;
-        }
-        EXPONENT_LIMIT
     }
 
     // The count of the mantissa's first digits that the image keeps.
@@ -173,16 +164,13 @@ impl Fitting {
         ensures { result ≡ kept_count self.now.image self.now.number }
     {
         if self.number.mantissa == 0 {
-            return 0;
+            0
+        } else if self.image.exponential {
+            self.image.hashes()
+        } else {
+            let end = self.number.exponent + usize::from(self.image.fraction) + 1;
+            end.saturating_sub(EXPONENT_LIMIT)
         }
-        if self.image.exponential {
-            return self.image.integer as usize + self.image.fraction as usize;
-        }
-        let end = self.number.exponent + self.image.fraction as usize + 1;
-        if end < EXPONENT_LIMIT {
-            return 0;
-        }
-        end - EXPONENT_LIMIT
     }
 
     // Whether the truncation is negative: the image has a sign, the number is below zero, and some digit is kept.
@@ -190,6 +178,7 @@ impl Fitting {
     fn keeps_minus(&self) -> bool
         ensures { result ≡ (kept_number self.now.image self.now.number).negative }
     {
+        // By name, for the edit minus_zero_kept.
         let keeps_digit = 0 < self.kept_count();
         is_signed(self.image.sign) && keeps_digit && self.number.negative
     }
@@ -220,6 +209,7 @@ impl Fitting {
 }
 
 // A number truncated under an image: the sign and the digits kept and the stored exponent; refused as fit is.
+#[tactic(auto, using(crate::proofs::TruncationLaws::fit_truncation, crate::proofs::KeptLaws::checked_refused, crate::proofs::KeptLaws::kept_sign), unfolding(crate::specs::Truncation::truncation_of, crate::specs::Truncation::truncated_to, crate::specs::Answer::mapped))]
 pub fn truncate(image: Image, number: Number, place: usize) -> Result<Truncation, Refusal>
     ensures { meaning result ≡ mapped truncation_of (truncation place image number) }
 {
@@ -233,6 +223,7 @@ pub fn truncate(image: Image, number: Number, place: usize) -> Result<Truncation
 }
 
 // The whole part of a mantissa in units of a power of ten: the digits before the unit's, the rest cut off and not rounded.
+// By itself, for the edit rounding, which is this line.
 fn whole_part(mantissa: u64, unit: u64) -> u64
     requires { (mantissa < 10 ^ precision) × (0 < unit) × (unit ≤ 10 ^ precision) }
     ensures { result ≡ mantissa / unit }
@@ -246,12 +237,14 @@ pub fn truncated(image: Image, number: Number, place: usize) -> Result<Number, R
 {
     fit(image, number, place)?;
     let fitting = Fitting { image, number };
-    if fitting.kept_count() == 0 {
-        return Ok(Number::ZERO);
-    }
-    Ok(Number {
-        negative: fitting.keeps_minus(),
-        mantissa: fitting.cut_mantissa(),
-        exponent: number.exponent,
-    })
+    let truncated = if fitting.kept_count() == 0 {
+        Number::ZERO
+    } else {
+        Number {
+            negative: fitting.keeps_minus(),
+            mantissa: fitting.cut_mantissa(),
+            exponent: number.exponent,
+        }
+    };
+    Ok(truncated)
 }

@@ -16,5 +16,5 @@ fn make_file(file: &mut [u8]) -> Result<usize, Refusal> {
 fn main(rt: HostRuntime) {
     let mut file = [0u8; 64];
     let answer = make_file(&mut file);
-    console::write_output(&rt, codec::written_part(answer, &file));
+    let _ = console::write_output(&rt, codec::written_part(answer, &file));
 }

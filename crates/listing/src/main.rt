@@ -11,6 +11,6 @@ fn main(rt: HostRuntime) {
     if let Ok(size) = console::read_input(&rt, &mut input) {
         let mut output = [0u8; records::REPORT_LENGTH];
         let answer = records::report(&input[..size], &mut output);
-        console::write_output(&rt, codec::written_part(answer, &output));
+        let _ = console::write_output(&rt, codec::written_part(answer, &output));
     }
 }

@@ -1,9 +1,12 @@
 -- Laws of the bodies of a file, taken from the front one after the other: what the code has of a contents, and the bytes that are left.
 -- Assumes nothing.
-use Rattle.std.proofs.Common.{◌≡◌, ℕ, zero, suc, ◌-◌, ◌*◌, ◌<◌, ◌≤◌, ◌≢◌, ◌==◌, Bool, true, false, List, ◌∷◌, length, take, drop, ap, sym, refl, ◌∙◌, zero-mul, arith}
+use Rattle.std.proofs.Common.{◌≡◌, ℕ, zero, suc, ◌+◌, ◌-◌, ◌*◌, ◌<◌, ◌≤◌, List, ◌∷◌, ◌++◌, length, length-append, take, drop, ap, ap₂, sym, refl, ◌∙◌, zero-mul, arith}
+use lib.Seq.{take-length}
+use Rattle.std.specs.declared.slice.ChunksExact.{ChunksExact}
+use Rattle.std.specs.Slice.Iter.{chunks_exact_size}
 use native.Mathlib.Nat.{div-add-mod', suc-mul}
-use Rattle.std.proofs.lemmas.List.{length-drop}
-use Rattle.std.proofs.lemmas.Bool.{eqb-true, eqb-false}
+use Rattle.std.proofs.Math.Seq.{drop-append_seam}
+use Rattle.std.proofs.lemmas.List.{length-drop, take-append-le}
 use Rattle.decimal.specs.Answer.{done, mapped}
 use Rattle.codec.specs.declared.contents.Contents.{Contents}
 use Rattle.codec.specs.Columns.{body_size}
@@ -36,34 +39,48 @@ file_reaches {file} {table} f =
     let whole = f.whole in
     omega (arith, length-drop table.size file)
 
--- the code's test whether bytes are left
-pub some_left : (rest : List ℕ) {b : Bool} → b ≡ (length rest == 0) → b ≡ false → 0 < length rest
-some_left rest p q = let ne : length rest ≢ 0 = eqb-false (length rest) 0 (sym p ∙ q) in omega arith
-
-pub none_left : (rest : List ℕ) {b : Bool} → b ≡ (length rest == 0) → b ≡ true → length rest ≡ 0
-none_left rest p q = eqb-true (length rest) 0 (sym p ∙ q)
-
--- bytes that are so many bodies, where some are left: one body is, and the bytes behind it are the others
-pub record Ahead (size : ℕ) (rest : List ℕ) (count : ℕ) : Type 0 where
+-- bytes that are so many bodies, of which one is taken off the front: the bytes behind it are the others
+pub record Ahead (size count : ℕ) (body behind : List ℕ) : Type 0 where
   pub others : ℕ
-  pub more : count ≡ suc others
-  pub inside : size ≤ length rest
-  pub behind : length (drop size rest) ≡ others * size
+  pub one : others + 1 ≡ count
+  pub reaches : length behind ≡ others * size
+  pub inside : size + length behind ≤ count * size
+  pub splits : bodies count size (body ++ behind) ≡ body ∷ bodies others size behind
 
-pub bodies_ahead : (size : ℕ) (rest : List ℕ) (count : ℕ) → length rest ≡ count * size → 0 < length rest → Ahead size rest count
-bodies_ahead size rest zero h l = absurd (omega (arith, zero-mul size))
-bodies_ahead size rest (suc n) h l =
-    record { others = n; more = refl; inside = omega (arith, suc-mul n size); behind = omega (arith, suc-mul n size, length-drop size rest) }
+-- the body that is taken
+taken_front : (size : ℕ) (body behind : List ℕ) → length body ≡ size → take size (body ++ behind) ≡ body
+taken_front size body behind h =
+    ap (λ (k : ℕ). take k (body ++ behind)) (sym h) ∙ take-append-le (length body) body behind (omega arith) ∙ take-length body
 
--- the bodies are that one and the others
-pub bodies_next : (size : ℕ) (rest : List ℕ) {count : ℕ} (a : Ahead size rest count) → bodies count size rest ≡ take size rest ∷ bodies a.others size (drop size rest)
+-- and the others
+taken_rest : (size : ℕ) (body behind : List ℕ) → length body ≡ size → drop size (body ++ behind) ≡ behind
+taken_rest size body behind h = ap (λ (k : ℕ). drop k (body ++ behind)) (sym h) ∙ drop-append_seam body behind
+
+pub bodies_ahead :
+    (size count : ℕ) (body behind : List ℕ) → 0 < size → length (body ++ behind) ≡ count * size → length body ≡ size → Ahead size count body behind
 unfolding bodies
-bodies_next size rest a = ap (λ (k : ℕ). bodies k size rest) a.more
+bodies_ahead size zero body behind s h e = absurd (omega (arith, zero-mul size, length-append body behind))
+bodies_ahead size (suc n) body behind s h e =
+    record {
+      one = omega arith;
+      others = n;
+      reaches = omega (arith, suc-mul n size, length-append body behind);
+      inside = omega (arith, length-append body behind);
+      splits = ap₂ (λ (x y : List ℕ). x ∷ bodies n size y) (taken_front size body behind e) (taken_rest size body behind e);
+    }
 
--- where none are left
-pub bodies_over : (size : ℕ) (rest : List ℕ) (count : ℕ) → 0 < size → length rest ≡ count * size → length rest ≡ 0 → count ≡ 0
-bodies_over size rest zero s h l = refl
-bodies_over size rest (suc n) s h l = absurd (omega (arith, suc-mul n size))
+-- a loop over bodies starts with pieces of a body's size
+pub pieces_start : {pieces items : ChunksExact ℕ} {size : ℕ} → pieces ≡ items → chunks_exact_size items ≡ size → chunks_exact_size pieces ≡ size
+pieces_start e h = ap chunks_exact_size e ∙ h
+
+-- which are not empty
+pub pieces_some : {pieces items : ChunksExact ℕ} {size : ℕ} → pieces ≡ items → chunks_exact_size items ≡ size → 0 < size → (0 < chunks_exact_size pieces) × Unit {0}
+pieces_some e h some = (omega (arith, pieces_start e h, some), tt)
+
+-- bytes that are shorter than a body are none
+pub bodies_over : (size : ℕ) (rest : List ℕ) (count : ℕ) → length rest ≡ count * size → length rest < size → count ≡ 0
+bodies_over size rest zero h l = refl
+bodies_over size rest (suc n) h l = absurd (omega (arith, suc-mul n size))
 
 -- What the code has of a file that is read.
 

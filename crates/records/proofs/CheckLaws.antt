@@ -1,5 +1,7 @@
 -- The laws of the checks of a line: its literal bytes, its fields from the left, and its elements.
 -- Assumes nothing.
+use Rattle.std.proofs.Common.{Result, Ok, Err}
+use Rattle.std.specs.Result.{MatchResult, is_ok}
 use Prim.Native.Nat.{ℕ, zero, suc, pred, ◌+◌, ◌*◌, ◌-◌, ◌<◌, ◌≤◌}
 use native.Mathlib.Omega.{arith}
 use native.Mathlib.Numerals.{add-one}
@@ -13,15 +15,16 @@ use lib.ListN.{length, take, drop, get_or, drop_of_length-le, length-drop}
 use lib.Seq.{drop-cons, drop-drop}
 use Rattle.std.proofs.lemmas.Bool.{leb-true}
 use borrow.Author.Tests.{eq-eqb, ne_eqb, lt-ltb, le-ltb, le-leb, lt-leb}
-use Rattle.decimal.specs.Image.{State, Start}
+use Rattle.decimal.specs.Image.{Start}
 use Rattle.decimal.specs.declared.number.Number.{Number}
-use Rattle.decimal.specs.Answer.{Answer, done, refused, ◌then◌, pick, checked_only}
+use Rattle.decimal.specs.declared.refusal.Refusal.{Refusal}
+use Rattle.decimal.specs.Answer.{Answer, done, refused, ◌then◌, pick, checked_only, meaning}
 use Rattle.decimal.specs.Digits.{precision}
 use Rattle.decimal.specs.Number.{normal, check_number}
-use Rattle.decimal.specs.Image.{hashes, scanned_image, next_state, integer_hash, fraction_hash, counted, integers_from, fractions_from}
+use Rattle.decimal.specs.Image.{hashes, scanned_image}
 use Rattle.decimal.proofs.DigitLaws.{le_or_lt}
 use Rattle.decimal.proofs.BoolLaws.{zero_or_not}
-use Rattle.decimal.proofs.ImageLaws.{hash_once}
+use Rattle.decimal.proofs.ImageLaws.{hashes_from}
 use Rattle.decimal.proofs.AnswerLaws.{then_last, then_next, then_refused}
 use Rattle.records.specs.declared.fields.Element.{Element}
 use Rattle.records.specs.declared.fields.Element.TheVariants as element
@@ -63,11 +66,6 @@ literals_literal line k h e =
     ap (λ (x : List ℕ). length (literals x)) l in
     omega arith
 
--- behind a line's end there are none
-pub literals_end : (line : List ℕ) (k : ℕ) → length line ≤ k → length (literals (drop k line)) ≡ 0
-unfolding literals
-literals_end line k h = ap (λ (x : List ℕ). length (literals x)) (drop_of_length-le line h)
-
 -- the literal bytes stand inside the line
 pub literals_inside : (bs : List ℕ) → length (literals bs) ≤ length bs
 unfolding literals
@@ -92,24 +90,6 @@ literals_stop (b ∷ bs) h e =
     (zero_or_not (field_length (b ∷ bs)))
 
 -- Fields.
-
--- the # signs of bytes read from a state on are no more than the bytes
-hashes_from : (s : State) (bs : List ℕ) → integers_from s bs + fractions_from s bs ≤ length bs
-unfolding integers_from fractions_from
-hashes_from s [] = omega arith
-hashes_from s (b ∷ bs) = go (next_state s b) (hashes_from (next_state s b) bs)
-  where
-    one : (t : Bool) (n : ℕ) → counted t n ≡ counted t 0 + n
-    one true n = omega arith
-    one false n = omega arith
-
-    go : (t : State) → integers_from t bs + fractions_from t bs ≤ length bs
-        → counted (integer_hash t) (integers_from t bs) + counted (fraction_hash t) (fractions_from t bs) ≤ suc (length bs)
-    go t ih =
-        let i = one (integer_hash t) (integers_from t bs) in
-        let f = one (fraction_hash t) (fractions_from t bs) in
-        let h : counted (integer_hash t) 0 + counted (fraction_hash t) 0 ≤ 1 = hash_once t refl refl in
-        omega arith
 
 -- the # signs of bytes are no more than the bytes
 pub hashes_few : (bs : List ℕ) → hashes (scanned_image bs) ≤ length bs
@@ -292,6 +272,15 @@ number_element room index {e} {n} h = ap (check_element room index) h ∙ go (no
     go true = refl
     go false = refl
 
+-- as the code drops what the check gives
+pub dropped :
+    {A : Type 0} (P : A → Type 0) (r : Result A Refusal) (s : Result (Unit {0}) Refusal)
+    → MatchResult r P (λ e. s ≡ Err e) → is_ok s ≡ is_ok r → meaning s ≡ checked_only (meaning r)
+unfolding checked_only
+dropped P (Ok x) (Ok y) h k = refl
+dropped P (Ok x) (Err e) h k = cc
+dropped P (Err e) s h k = ap meaning h
+
 -- a text inside its lent bytes
 pub text_checked : (room index : ℕ) {e : Element} {from size : ℕ} → e ≡ element.Text from size → from + size ≤ room
     → check_element room index e ≡ done tt
@@ -354,18 +343,14 @@ counts_within count size h = go (leb count max_elements) (leb size max_line) ref
     go false t p q h = let z : ◌≡◌ {A = ℕ} 0 1 = cc in absurd (omega arith)
 
 -- too many elements
-counts_many : (count size : ℕ) → max_elements < count → check_counts count size ≡ refused 10 0
+pub counts_many : (count size : ℕ) → max_elements < count → check_counts count size ≡ refused 10 0
 unfolding check_counts
 counts_many count size h = rw (lt-leb count max_elements h)
 
 -- too long a line
-counts_long : (count size : ℕ) → count ≤ max_elements → max_line < size → check_counts count size ≡ refused 10 0
+pub counts_long : (count size : ℕ) → count ≤ max_elements → max_line < size → check_counts count size ≡ refused 10 0
 unfolding check_counts
 counts_long count size h l = rw (le-leb count max_elements h, lt-leb size max_line l)
-
--- one or the other
-pub counts_refused : (count size : ℕ) → (max_elements < count) ⊎ ((count ≤ max_elements) × (max_line < size)) → check_counts count size ≡ refused 10 0
-counts_refused count size w = ⊎_elim (counts_many count size) (λ p. counts_long count size p.0 p.1) w
 
 module _ (line : List ℕ) (es : List Element) (room : ℕ) where
   -- refused for its counts
@@ -423,12 +408,12 @@ printed_checks line es texts =
     ∙ then_again a (b then λ _. (d then λ _. e)) f
 
 -- a forecast within the limits
-pub forecast_done : (count size : ℕ) → count ≤ max_elements → size ≤ max_line → forecasting count size ≡ done ((count + 1) * (size + 1))
+pub forecast_done : (count size : ℕ) → check_counts count size ≡ done tt → forecasting count size ≡ done ((count + 1) * (size + 1))
 unfolding forecasting
-forecast_done count size h l = then_next _ (counts_done count size h l)
+forecast_done count size h = then_next _ h
 
 -- one refused
-pub forecast_refused : (count size : ℕ) → check_counts count size ≡ refused 10 0 → forecasting count size ≡ refused 10 0
+pub forecast_refused : (count size : ℕ) {number place : ℕ} → check_counts count size ≡ refused number place → forecasting count size ≡ refused number place
 unfolding forecasting
 forecast_refused count size h = then_refused _ h
 

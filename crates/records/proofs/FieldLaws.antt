@@ -1,5 +1,7 @@
 -- Laws of fields that are filled: the bytes written one by one, the # signs of a field, and the length of what an element prints.
 -- Assumes nothing.
+use Rattle.std.proofs.Common.{Result, Ok, Err}
+use Rattle.std.specs.Result.{is_err}
 use Prim.Native.Nat.{ℕ, zero, suc, ◌+◌, ◌<◌, ◌≤◌}
 use native.Mathlib.Omega.{arith}
 use native.Mathlib.Numerals.{add-one}
@@ -16,14 +18,15 @@ use Rattle.decimal.specs.declared.image.Sign.{Sign}
 use Rattle.decimal.specs.declared.image.Sign.TheVariants.{Unsigned, Plus, Minus}
 use Rattle.decimal.specs.declared.image.Image.{Image}
 use Rattle.decimal.specs.declared.number.Number.{Number}
-use Rattle.decimal.specs.Answer.{Answer, done, refused, ◌then◌, pick, checked_only}
+use Rattle.decimal.specs.declared.refusal.Refusal.{Refusal}
+use Rattle.decimal.specs.Answer.{Answer, done, refused, ◌then◌, pick, checked_only, meaning}
 use Rattle.decimal.specs.Digits.{digits_of}
 use Rattle.decimal.specs.Number.{normal}
-use Rattle.decimal.specs.Image.{hash_byte, comma_byte, hashes, times, sign_bytes, fraction_bytes, up_bytes, image_bytes, scanned_image, IsImage}
+use Rattle.decimal.specs.Image.{plus_byte, minus_byte, hash_byte, comma_byte, hashes, sign_of, times, sign_bytes, fraction_bytes, up_bytes, image_bytes, scanned_image, IsImage}
 use Rattle.decimal.specs.Truncation.{Truncated, truncation}
 use Rattle.decimal.proofs.DigitLaws.{digit_below, digits_are_digits, le_or_lt}
 use Rattle.codec.specs.Answers.{stored_in, sized}
-use Rattle.codec.specs.Alpha.{alpha_text, text_length, writing_alpha_under, blank_byte}
+use Rattle.codec.specs.Alpha.{sign_shown, alpha_text, text_length, writing_alpha_under, blank_byte}
 use Rattle.codec.specs.Lists.{filled}
 use Rattle.codec.proofs.ListLaws.{filled_length}
 use lib.ListN.{replicate}
@@ -35,7 +38,7 @@ use Rattle.records.specs.declared.fields.Element.TheVariants as element
 use Rattle.records.specs.Scanning.{Field, run_bytes, field_bytes, total, IsField}
 use Rattle.records.specs.declared.marks.Marks.{Marks}
 use Rattle.records.specs.Marks.{document_marks, with_decimal}
-use Rattle.records.specs.Fields.{next_digit, fill_byte, fill_next, fill_bytes, nothing_filled, shown_marked, number_marked, number_in, or_field, spilled_by}
+use Rattle.records.specs.Fields.{next_digit, sign_byte_of, fill_byte, fill_next, fill_bytes, nothing_filled, shown_marked, number_marked, number_in, or_field, spilled_by}
 use Rattle.records.specs.Fields.{text_in, element_bytes, FieldImage, hash_count, point_marked}
 use Rattle.records.specs.Printing.{check_element}
 use Rattle.records.proofs.FieldTheorem.{field_image_lem}
@@ -80,11 +83,6 @@ fill_length m im t fill (b ∷ bs) = ap suc (fill_length m im t (fill_next im t 
 pub record Filling (m : Marks) (im : Image) (t : Truncated) (whole now : List ℕ) (fill : Fill) (j : ℕ) : Type 0 where
   pub made : take j now ++ fill_bytes m im t fill (drop j now) ≡ whole
   pub left : fill.used + hash_count (drop j now) ≤ hashes im
-
--- at the field's start
-pub filling_starts : (m : Marks) (im : Image) (t : Truncated) (field : List ℕ) → hash_count field ≤ hashes im
-    → Filling m im t (fill_bytes m im t nothing_filled field) field nothing_filled 0
-filling_starts m im t field h = record { made = refl; left = omega arith }
 
 -- the # signs from a byte on
 count_cons : (field : List ℕ) (j : ℕ) → j < length field
@@ -361,7 +359,7 @@ element_length {field} is texts (element.Text start size) = filled_length blank_
 
 module _ (field : List ℕ) (n : Number) where
   -- a number that fits is not spilled
-  pub spilled_not : done tt ≡ checked_only (truncation 0 (scanned_image field) n) → spilled_by (number_in field n) ≡ 0
+  spilled_not : done tt ≡ checked_only (truncation 0 (scanned_image field) n) → spilled_by (number_in field n) ≡ 0
   unfolding checked_only number_marked ◌then◌ spilled_by
   spilled_not h = go (truncation 0 (scanned_image field) n) h
     where
@@ -371,7 +369,7 @@ module _ (field : List ℕ) (n : Number) where
       go (refused number place) e = never_done (sym e)
 
   -- a number that is refused is
-  pub spilled_is :
+  spilled_is :
       {number place : ℕ} → refused number place ≡ checked_only (truncation 0 (scanned_image field) n) → spilled_by (number_in field n) ≡ 1
   unfolding checked_only number_marked ◌then◌ spilled_by
   spilled_is {number} {place} h = go (truncation 0 (scanned_image field) n) h
@@ -380,6 +378,13 @@ module _ (field : List ℕ) (n : Number) where
           → spilled_by (a then λ t. done (shown_marked document_marks field (scanned_image field) t)) ≡ 1
       go (done t) e = never_done e
       go (refused x y) e = refl
+
+  -- as the code finds it
+  pub spilled_found :
+      (fits : Result (Unit {0}) Refusal) → meaning fits ≡ checked_only (truncation 0 (scanned_image field) n)
+      → is_err fits ≡ eqb (spilled_by (number_in field n)) 1
+  spilled_found (Ok x) h = ap (λ (k : ℕ). eqb k 1) (sym (spilled_not h))
+  spilled_found (Err e) h = ap (λ (k : ℕ). eqb k 1) (sym (spilled_is h))
 
 -- Published: whether a number is spilled does not depend on the marks.
 pub spilled_any : (m k : Marks) (field : List ℕ) (n : Number) → spilled_by (number_marked m field n) ≡ spilled_by (number_marked k field n)
@@ -413,3 +418,13 @@ text_inside room start size is h =
     let z : ◌≡◌ {A = ℕ} 0 1 = cc in
     absurd (omega arith))
     (le_or_lt (start + size) room)
+
+-- what stands in the field for the byte of a sign is what alpha text shows for that sign
+pub sign_shown_of : (b : ℕ) (negative : Bool) → sign_shown (sign_of b) negative ≡ sign_byte_of b negative
+unfolding sign_shown sign_byte_of
+sign_shown_of b negative = go (eqb b plus_byte) (eqb b minus_byte)
+  where
+    go : (plus minus : Bool) → sign_shown (pick plus Plus (pick minus Minus Unsigned)) negative ≡ pick negative minus_byte (pick plus plus_byte blank_byte)
+    go true minus = refl
+    go false true = refl
+    go false false = refl

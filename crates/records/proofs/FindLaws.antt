@@ -181,11 +181,6 @@ pub record Finding (line : List ℕ) (fields : List Field) (count place : ℕ) :
   pub rest : drop count (line_fields line) ≡ fields_at line place
   pub held : fields ≡ take max_fields (take count (line_fields line))
 
--- before the first byte
-pub finding_starts : (line : List ℕ) → Finding line [] 0 0
-finding_starts line =
-    record { few = omega arith; within = omega arith; inside = omega arith; checks = refl; rest = refl; held = refl }
-
 -- of a list's first elements so many
 take_fewer : {A : Type 0} (n m : ℕ) (xs : List A) → n ≤ m → take n (take m xs) ≡ take n xs
 take_fewer zero m xs h = refl

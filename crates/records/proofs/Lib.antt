@@ -1,6 +1,5 @@
 -- The laws of layer 3, from the lowest up.
 pub mod WritingLaws
-pub mod FieldStateLaws
 pub mod ScanLaws
 pub mod FieldTails
 pub mod FieldRuns

@@ -1,12 +1,12 @@
 -- Laws of the lines of a file's records: what a file whose bodies can all be read tells, and what the loops that check the bodies and
 -- write their lines hold. Assumes nothing.
-use Rattle.std.proofs.Common.{◌≡◌, ℕ, zero, suc, ◌+◌, ◌-◌, ◌*◌, ◌/◌, ◌<◌, ◌≤◌, List, [], ◌∷◌, ◌++◌, length, take, drop, refl, ap, ap₂, sym, subst, ◌∙◌, length-append, arith}
+use Rattle.std.proofs.Common.{◌≡◌, ℕ, suc, ◌+◌, ◌-◌, ◌*◌, ◌/◌, ◌<◌, ◌≤◌, List, [], ◌∷◌, ◌++◌, length, drop, refl, ap, ap₂, sym, subst, ◌∙◌, length-append, arith}
 use Rattle.decimal.specs.declared.image.Image.{Image}
 use Rattle.decimal.specs.declared.number.Number.{Number}
 use Rattle.decimal.specs.Answer.{Answer, done, refused, ◌then◌, given, mapped}
 use Rattle.decimal.proofs.AnswerLaws.{then_done, done_same, one_answer, never, mapped_back}
 use Rattle.codec.specs.declared.contents.Contents.{Contents}
-use Rattle.codec.specs.Columns.{body_size, AllChecked}
+use Rattle.codec.specs.Columns.{AllChecked}
 use Rattle.codec.specs.Contents.{Table, contents_of}
 use Rattle.codec.specs.Unpacking.{unpack_body, unpack_under}
 use Rattle.codec.specs.Alpha.{alpha_texts, line_length}
@@ -19,7 +19,7 @@ use Rattle.records.specs.Listing.{columns_word, records_word, count_line, record
 use Rattle.records.proofs.FileLaws.{file_told}
 use Rattle.records.proofs.WritingLaws.{part_behind, behind_all, lent_written, Coming, coming_starts, coming_room, coming_bytes, coming_ends}
 use borrow.Rule.Slice.PartMut.{put_mid}
-use Rattle.records.proofs.BodiesLaws.{file_reaches, Ahead, bodies_ahead, bodies_next, bodies_over, bodies_count}
+use Rattle.records.proofs.BodiesLaws.{file_reaches, Ahead, bodies_ahead, bodies_over, bodies_count}
 use Rattle.records.proofs.RecordLaws.{line_length_lem}
 
 -- The lines of records, one body after the other.
@@ -230,55 +230,53 @@ checking_starts file {r} h =
     subst (λ (rest : List ℕ). Checking file r rest) (sym (behind_all file r.size))
     (subst (λ (r : Contents). Checking file r (drop r.size file)) (sym t.2) (starts_at file t.1))
 
-module _ {file : List ℕ} {r : Contents} {rest : List ℕ} (c : Checking file r rest) where
-  -- at the end
-  pub checking_ends : length rest ≡ 0 → done r ≡ mapped contents_of (checked_file file)
-  unfolding record_lines bodies ◌then◌
-  checking_ends l =
-      let over = bodies_over r.body rest c.left c.some c.reaches l in
-      sym (c.says ∙ ap (λ (k : ℕ). record_lines r.images.items (bodies k r.body rest) then λ lines. done r) over)
+-- at the end
+pub checking_ends : {file : List ℕ} {r : Contents} {rest : List ℕ} → Checking file r rest → length rest < r.body → done r ≡ mapped contents_of (checked_file file)
+unfolding record_lines bodies ◌then◌
+checking_ends {file} {r} {rest} c l =
+    let over = bodies_over r.body rest c.left c.reaches l in
+    sym (c.says ∙ ap (λ (k : ℕ). record_lines r.images.items (bodies k r.body rest) then λ lines. done r) over)
 
-  module _ (l : 0 < length rest) where
-    -- one body is left at least
-    ahead : Ahead r.body rest c.left
-    ahead = bodies_ahead r.body rest c.left c.reaches l
+-- a body is taken off the front
+module _ {file : List ℕ} {r : Contents} {rest : List ℕ} (c : Checking file r rest) (body behind : List ℕ) (split : rest ≡ body ++ behind)
+    (size : length body ≡ r.body) where
+  ahead : Ahead r.body c.left body behind
+  ahead = bodies_ahead r.body c.left body behind c.some (ap length (sym split) ∙ c.reaches) size
 
-    -- the code takes it off the front
-    pub checking_inside : r.body ≤ length rest
-    checking_inside = ahead.inside
+  -- the bodies behind it
+  abbrev others : List (List ℕ)
+  others = bodies ahead.others r.body behind
 
-    -- the bodies behind it
-    abbrev behind : List (List ℕ)
-    behind = bodies ahead.others r.body (drop r.body rest)
+  -- what they say
+  checking_rest : mapped contents_of (checked_file file) ≡ (record_lines r.images.items (body ∷ others) then λ lines. done r)
+  checking_rest =
+      c.says
+      ∙ ap (λ (bytes : List ℕ). record_lines r.images.items (bodies c.left r.body bytes) then λ lines. done r) split
+      ∙ ap (λ (bs : List (List ℕ)). record_lines r.images.items bs then λ lines. done r) ahead.splits
 
-    -- what they say
-    checking_rest : mapped contents_of (checked_file file) ≡ (record_lines r.images.items (take r.body rest ∷ behind) then λ lines. done r)
-    checking_rest = c.says ∙ ap (λ (bs : List (List ℕ)). record_lines r.images.items bs then λ lines. done r) (bodies_next r.body rest ahead)
+  module _ {ims : List Image} (e : ims ≡ r.images.items) where
+    -- the body is refused
+    pub checking_stops : {x y : ℕ} → refused x y ≡ unpack_under ims body → mapped contents_of (checked_file file) ≡ refused x y
+    unfolding ◌then◌
+    checking_stops h =
+        checking_rest
+        ∙ ap (λ (a : Answer (List ℕ)). a then λ lines. done r) (lines_refused r.images.items body others (sym (h ∙ body_unpacked c.sound e body)))
 
-    module _ {ims : List Image} (e : ims ≡ r.images.items) where
-      -- the body is refused
-      pub checking_stops : {x y : ℕ} → refused x y ≡ unpack_under ims (take r.body rest) → mapped contents_of (checked_file file) ≡ refused x y
-      unfolding ◌then◌
-      checking_stops h =
-          checking_rest
-          ∙ ap (λ (a : Answer (List ℕ)). a then λ lines. done r)
-          (lines_refused r.images.items (take r.body rest) behind (sym (h ∙ body_unpacked c.sound e (take r.body rest))))
-
-      -- it is read
-      pub checking_turns : {ns : List Number} → done ns ≡ unpack_under ims (take r.body rest) → Checking file r (drop r.body rest)
-      checking_turns {ns} h =
-          let read : unpack_body r.images.items (take r.body rest) ≡ done ns = sym (h ∙ body_unpacked c.sound e (take r.body rest)) in
-          let texts = unpacked_texts c.sound.all (take r.body rest) read in
-          record {
-            sound = c.sound;
-            some = c.some;
-            left = ahead.others;
-            reaches = ahead.behind;
-            says =
-                checking_rest
-                ∙ ap (λ (a : Answer (List ℕ)). a then λ lines. done r) (lines_next r.images.items (take r.body rest) behind read texts.1)
-                ∙ then_added (record_lines r.images.items behind) (λ (lines : List ℕ). record_line texts.0 ++ lines) r;
-          }
+    -- it is read
+    pub checking_turns : {ns : List Number} → done ns ≡ unpack_under ims body → Checking file r behind
+    checking_turns {ns} h =
+        let read : unpack_body r.images.items body ≡ done ns = sym (h ∙ body_unpacked c.sound e body) in
+        let texts = unpacked_texts c.sound.all body read in
+        record {
+          sound = c.sound;
+          some = c.some;
+          left = ahead.others;
+          reaches = ahead.reaches;
+          says =
+              checking_rest
+              ∙ ap (λ (a : Answer (List ℕ)). a then λ lines. done r) (lines_next r.images.items body others read texts.1)
+              ∙ then_added (record_lines r.images.items others) (λ (lines : List ℕ). record_line texts.0 ++ lines) r;
+        }
 
 -- Writing the lines: those that are written, and those of the bodies that are left, are all.
 pub record Lining (file : List ℕ) (r : Contents) (now : List ℕ) (out : ℕ) (rest : List ℕ) : Type 0 where
@@ -297,27 +295,25 @@ lining_starts {file} {r} f now =
 module _ {file : List ℕ} {r : Contents} (f : FileListed file r) {now : List ℕ} {out : ℕ} {rest : List ℕ} (w : Lining file r now out rest)
     (long : length now ≡ length (lines_of file)) where
   -- at the end
-  pub lining_ends : length rest ≡ 0 → now ≡ lines_of file
+  pub lining_ends : length rest < r.body → now ≡ lines_of file
   unfolding record_lines bodies
   lining_ends l =
-      let over = bodies_over r.body rest w.left f.some w.reaches l in
+      let over = bodies_over r.body rest w.left w.reaches l in
       let none : [] ≡ w.after = done_same (sym (ap (λ (k : ℕ). record_lines r.images.items (bodies k r.body rest)) over) ∙ w.comes) in
       coming_ends (subst (λ (s : List ℕ). Coming now out s (lines_of file)) (sym none) w.joined) long
 
-  module _ (l : 0 < length rest) where
-    -- one body is left at least
-    lining_ahead : Ahead r.body rest w.left
-    lining_ahead = bodies_ahead r.body rest w.left w.reaches l
-
-    -- the code takes it off the front
-    pub lining_inside : r.body ≤ length rest
-    lining_inside = lining_ahead.inside
+  -- a body is taken off the front
+  module _ (body behind : List ℕ) (split : rest ≡ body ++ behind) (size : length body ≡ r.body) where
+    lining_ahead : Ahead r.body w.left body behind
+    lining_ahead = bodies_ahead r.body w.left body behind f.some (ap length (sym split) ∙ w.reaches) size
 
     -- it is read, and its texts exist
-    lining_step : LinesStep r.images.items (take r.body rest) (bodies lining_ahead.others r.body (drop r.body rest)) w.after
+    lining_step : LinesStep r.images.items body (bodies lining_ahead.others r.body behind) w.after
     lining_step =
-        lines_view r.images.items (take r.body rest) (bodies lining_ahead.others r.body (drop r.body rest))
-        (ap (record_lines r.images.items) (sym (bodies_next r.body rest lining_ahead)) ∙ w.comes)
+        lines_view r.images.items body (bodies lining_ahead.others r.body behind)
+        (ap (record_lines r.images.items) (sym lining_ahead.splits)
+        ∙ ap (λ (bytes : List ℕ). record_lines r.images.items (bodies w.left r.body bytes)) (sym split)
+        ∙ w.comes)
 
     -- the line of it
     next_line : List ℕ
@@ -340,13 +336,13 @@ module _ {file : List ℕ} {r : Contents} (f : FileListed file r) {now : List �
     -- The numbers that the code reads.
     module _ {ims own : List Image} {read ns : List Number}
         (e : ims ≡ r.images.items)
-        (h : done read ≡ unpack_under ims (take r.body rest))
+        (h : done read ≡ unpack_under ims body)
         (p : own ≡ r.images.items)
         (q : ns ≡ read) where
       -- are those of its texts
       front_texts : alpha_texts own ns ≡ done lining_step.texts
       front_texts =
-          let same : read ≡ lining_step.numbers = one_answer (sym (h ∙ body_unpacked f.sound e (take r.body rest))) lining_step.unpacks in
+          let same : read ≡ lining_step.numbers = one_answer (sym (h ∙ body_unpacked f.sound e body)) lining_step.unpacks in
           ap₂ (λ (x : List Image) (y : List Number). alpha_texts x y) p (q ∙ same) ∙ lining_step.shows
 
       -- so they have texts
@@ -357,7 +353,7 @@ module _ {file : List ℕ} {r : Contents} (f : FileListed file r) {now : List �
             texts = lining_step.texts;
             exist = front_texts;
             counted =
-                texts_count f.sound.all lining_step.numbers (unpacked_count r.images.items (take r.body rest) lining_step.unpacks) lining_step.shows
+                texts_count f.sound.all lining_step.numbers (unpacked_count r.images.items body lining_step.unpacks) lining_step.shows
                 ∙ sym (ap length p);
           }
 
@@ -376,11 +372,11 @@ module _ {file : List ℕ} {r : Contents} (f : FileListed file r) {now : List �
           → line ≡ record_line (given (alpha_texts own ns))
           → n ≡ r.size - 1
           → m ≡ r.size - 1
-          → Lining file r (put_mid out n now line) (out + m) (drop r.body rest)
+          → Lining file r (put_mid out n now line) (out + m) behind
       lining_turns same one two =
           record {
             left = lining_ahead.others;
-            reaches = lining_ahead.behind;
+            reaches = lining_ahead.reaches;
             after = lining_step.others;
             comes = lining_step.rest;
             joined =
@@ -389,5 +385,5 @@ module _ {file : List ℕ} {r : Contents} (f : FileListed file r) {now : List �
           }
 
     -- it is not refused
-    pub lining_reads : {B : Type 0} {ims : List Image} {x y : ℕ} → ims ≡ r.images.items → refused x y ≡ unpack_under ims (take r.body rest) → B
-    lining_reads e h = never (sym (h ∙ body_unpacked f.sound e (take r.body rest))) lining_step.unpacks
+    pub lining_reads : {B : Type 0} {ims : List Image} {x y : ℕ} → ims ≡ r.images.items → refused x y ≡ unpack_under ims body → B
+    lining_reads e h = never (sym (h ∙ body_unpacked f.sound e body)) lining_step.unpacks

@@ -1,8 +1,10 @@
 -- Where the print loops stand: the place in the line, the elements left, and the spilled ones so far. Assumes nothing.
-use Prim.Native.Nat.{ℕ, ◌+◌, ◌-◌, ◌*◌, ◌<◌, ◌≤◌}
+use mir.Val.{bool_byte}
+use Prim.Native.Nat.{ℕ, zero, suc, ◌+◌, ◌-◌, ◌*◌, ◌<◌, ◌≤◌}
 use mathlib.Core.Path.{◌≡◌, refl, ap, sym, ◌∙◌, subst}
 use mathlib.Core.List.{List, [], ◌∷◌, ◌++◌}
-use mathlib.Core.Bool.{false}
+use mathlib.Core.Bool.{Bool, false}
+use lib.Dec.{eqb}
 use native.Mathlib.Omega.{arith}
 use native.Mathlib.Nat.{zero-add}
 use lib.ListN.{length, take, drop, get_or, length-drop}
@@ -174,6 +176,16 @@ pub spills_once : (bytes : List ℕ) (e : Element) → element_spills bytes e �
 unfolding element_spills
 spills_once bytes (element.Number n) = at_most (number_in bytes n)
 spills_once bytes (element.Text start size) = omega arith
+
+-- so it counts as whether it is spilled, a truth value as a number
+pub spills_counted : (bytes : List ℕ) (e : Element) {spilled : Bool} {n : ℕ} → spilled ≡ eqb (element_spills bytes e) 1 → n ≡ bool_byte spilled
+    → n ≡ element_spills bytes e
+spills_counted bytes e is counts = counts ∙ ap bool_byte is ∙ go (element_spills bytes e) (spills_once bytes e)
+  where
+    go : (k : ℕ) → k ≤ 1 → bool_byte (eqb k 1) ≡ k
+    go zero h = refl
+    go (suc zero) h = refl
+    go (suc (suc k)) h = absurd (omega arith)
 
 -- so many elements are spilled up to a place of the line
 pub record Spills (line : List ℕ) (es left : List Element) (from spilled : ℕ) : Type 0 where

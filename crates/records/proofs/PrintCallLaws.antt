@@ -14,20 +14,19 @@ use Rattle.records.specs.declared.fields.Element.{Element}
 use Rattle.records.specs.declared.printing.Printed.{Printed}
 use Rattle.records.specs.declared.finding.Field.{Field}
 use Rattle.records.specs.Finding.{Listed}
-use Rattle.records.proofs.CheckLaws.{counts_done, some_done, line_elements}
+use Rattle.records.proofs.CheckLaws.{some_done, line_elements}
 use Rattle.records.proofs.FindLaws.{listed_one}
-use Rattle.records.specs.Printing.{max_elements, max_line, Print, print_from, check_fields, check_elements, check_some, check_counts, printed, room_for, printing, printed_of, bytes_of, line_checks}
+use Rattle.records.specs.Printing.{Print, print_from, check_fields, check_elements, check_some, check_counts, printed, room_for, printing, printed_of, bytes_of, line_checks}
 
 -- A line whose fields are listed is checked as its elements are, where it has a field or no elements.
 pub line_listed : (line : List ℕ) (es : List Element) (room : ℕ) {fields : List Field}
-    → length es ≤ max_elements
-    → length line ≤ max_line
+    → check_counts (length es) (length line) ≡ done tt
     → check_fields 0 0 line ≡ done tt
     → Listed line fields
     → (0 < length fields) ⊎ (length es ≡ 0)
     → line_checks line es room ≡ check_elements room 0 es
-line_listed line es room few short checked listed some =
-    line_elements line es room (counts_done _ _ few short) checked (some_done _ _ (⊎_elim (λ h. inl (listed_one listed h)) (λ h. inr h) some))
+line_listed line es room counted checked listed some =
+    line_elements line es room counted checked (some_done _ _ (⊎_elim (λ h. inl (listed_one listed h)) (λ h. inr h) some))
 
 -- The print call.
 

@@ -1,14 +1,18 @@
 -- Document 01, Print lines: reading a field back. A text number with no blank is short; what a loop over the field keeps.
 -- Assumes nothing.
+use Rattle.std.proofs.Common.{Option, Some, Result, Ok, Err, map, filter, cond, not, subst}
+use Rattle.std.specs.Result.{is_err, OnOk, OnErr}
+use Rattle.std.specs.Iterator.{YieldsThen}
+use Rattle.std.proofs.lemmas.Option.{slice_get_within}
+use Rattle.std.proofs.lemmas.Iterator.{YieldsList}
+use Rattle.std.proofs.lemmas.Iterator.Consumers.{nth_from_yields_List}
 use Prim.Native.Nat.{ℕ, zero, suc, ◌+◌, ◌<◌, ◌≤◌}
 use mathlib.Core.Path.{◌≡◌, refl, ap, sym, ◌∙◌}
-use mathlib.Core.List.{List, [], ◌∷◌, ◌++◌, append-nil}
+use mathlib.Core.List.{List, [], ◌∷◌, ◌++◌}
 use mathlib.Core.Bool.{Bool, true, false, ◌||◌, false≢true}
 use native.Mathlib.Omega.{arith}
-use native.Mathlib.Numerals.{add-one}
 use lib.Dec.{eqb}
-use lib.ListN.{length, drop, get_or, length-append, drop_of_length-le}
-use lib.Seq.{drop-cons}
+use lib.ListN.{length, length-append}
 use Rattle.decimal.specs.declared.image.Sign.{Sign}
 use Rattle.decimal.specs.declared.image.Sign.TheVariants.{Unsigned, Plus, Minus}
 use Rattle.decimal.specs.Answer.{refused, pick}
@@ -129,27 +133,45 @@ pub long_refused : (m : Marks) (field : List ℕ) → text_room < length (withou
 unfolding read_marked
 long_refused m field long = converts_none (without_marks m field) (λ t form. omega (arith, form_short form (count_without m field)))
 
--- What the loop keeps: the kept bytes and what is kept of the rest of the field.
+-- What the code keeps: the bytes that are read, of those that are not dropped.
 
-module _ (m : Marks) (field : List ℕ) (j : ℕ) (inside : j < length field) where
-  -- a byte is dropped
-  pub drops_byte : is_dropped m (get_or field j 0) ≡ true → without_marks m (drop j field) ≡ without_marks m (drop (j + 1) field)
-  unfolding without_marks
-  drops_byte e =
-      ap (without_marks m) (drop-cons field j 0 inside) ∙ rw e (ap (λ (k : ℕ). without_marks m (drop k field)) (sym (add-one j)))
-
-  -- or it is kept
-  pub keeps_byte : is_dropped m (get_or field j 0) ≡ false → without_marks m (drop j field) ≡ read_byte m (get_or field j 0) ∷ without_marks m (drop (j + 1) field)
-  unfolding without_marks
-  keeps_byte e =
-      ap (without_marks m) (drop-cons field j 0 inside)
-      ∙ rw e (ap (λ (k : ℕ). read_byte m (get_or field j 0) ∷ without_marks m (drop k field)) (sym (add-one j)))
-
--- the kept bytes at the field's end
-pub kept_all : (m : Marks) (field kept : List ℕ) (j : ℕ) → length field ≤ j → without_marks m field ≡ kept ++ without_marks m (drop j field)
-    → kept ≡ without_marks m field
+pub kept_lem : (m : Marks) (bytes : List ℕ) → map (read_byte m) (filter (λ b. not (is_dropped m b)) bytes) ≡ without_marks m bytes
 unfolding without_marks
-kept_all m field kept j e made =
-    sym (append-nil kept)
-    ∙ ap (λ (l : List ℕ). kept ++ without_marks m l) (sym (drop_of_length-le field {i = j} e))
-    ∙ sym made
+kept_lem m [] = refl
+kept_lem m (b ∷ bs) = go (is_dropped m b) (kept_lem m bs)
+  where
+    go : (t : Bool)
+        → map (read_byte m) (filter (λ b. not (is_dropped m b)) bs) ≡ without_marks m bs
+        → map (read_byte m) (cond (not t) (b ∷ filter (λ b. not (is_dropped m b)) bs) (filter (λ b. not (is_dropped m b)) bs))
+        ≡ pick t (without_marks m bs) (read_byte m b ∷ without_marks m bs)
+    go true h = h
+    go false h = ap (λ (l : List ℕ). read_byte m b ∷ l) h
+
+-- behind none
+pub kept_first : {before : List ℕ} → before ≡ [] → (m : Marks) (bytes : List ℕ) → before ++ map (read_byte m) (filter (λ b. not (is_dropped m b)) bytes) ≡ without_marks m bytes
+kept_first none m bytes = ap (λ (l : List ℕ). l ++ map (read_byte m) (filter (λ b. not (is_dropped m b)) bytes)) none ∙ kept_lem m bytes
+
+-- what holds of a refusal holds where there is one
+on_refusal : {A E P : Type 0} (r : Result A E) → true ≡ is_err r → OnErr r P → P
+on_refusal (Ok x) e p = absurd (false≢true (sym e))
+on_refusal (Err x) e p = p
+
+-- and what holds of a result where there is none
+pub on_result : {A E P : Type 0} (r : Result A E) → false ≡ is_err r → OnOk r P → P
+on_result (Ok x) e p = p
+on_result (Err x) e p = absurd (false≢true e)
+
+-- where a list of n items had no room for one more, more than n came
+pub more_came :
+    {T A E : Type 0} {steps : T → Option A → T → Type 0} {all : List A} {s : T} {n : ℕ} (before kept : List A) (r : Result (Unit {0}) E)
+    → before ≡ []
+    → true ≡ is_err r
+    → OnErr r ((it : T) × (xs : List A) × (x : A) × (rest : T) × (it ≡ s) × YieldsThen steps it xs (Some x) rest × (kept ≡ before ++ xs))
+    → OnErr r (length kept ≡ n)
+    → YieldsList steps (λ x. x) s all
+    → n < length all
+more_came {T} {A} {E} {steps} {all} {s} {n} before kept r none e more full road =
+    let m = on_refusal r e more in
+    let yields = subst (λ (t : T). YieldsThen steps t m.1 (Some m.2) m.3) m.4 m.5 in
+    let long = ap length (sym (m.6 ∙ ap (λ (l : List A). l ++ m.1) none)) ∙ on_refusal r e full in
+    slice_get_within all n m.2 (sym (nth_from_yields_List (Some m.2) m.3 n (m.1, yields, long) road))

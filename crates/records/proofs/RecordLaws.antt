@@ -1,10 +1,12 @@
 -- Laws of a record's line: its texts one after the other, and how the code writes them. Assumes nothing.
-use Rattle.std.proofs.Common.{◌≡◌, ℕ, zero, suc, ◌+◌, ◌<◌, ◌≤◌, List, [], ◌∷◌, ◌++◌, length, drop, get_or, set, refl, ap, sym, subst, subst₂, ◌∙◌, ◌⊎◌, ⊎_elim, false, append_assoc, length-append, length-drop, length-set, add-one, arith}
-use lib.Seq.{drop-cons}
+use Rattle.std.proofs.Common.{◌≡◌, ℕ, zero, suc, ◌+◌, ◌<◌, ◌≤◌, List, [], ◌∷◌, ◌++◌, length, drop, get_or, set, refl, ap, ap₂, sym, subst, subst₂, ◌∙◌, ◌⊎◌, ⊎_elim, append_assoc, length-append, length-drop, length-set, add-one, arith}
+use lib.Seq.{drop-cons, drop-drop}
 use lib.ListN.{drop_of_length-le}
 use Rattle.decimal.specs.declared.image.Image.{Image}
 use Rattle.decimal.specs.declared.number.Number.{Number}
 use Rattle.decimal.specs.Answer.{Answer, done, refused, given}
+use Rattle.decimal.specs.Number.{zero_number}
+use Rattle.decimal.proofs.DigitLaws.{le_or_lt}
 use Rattle.decimal.proofs.AnswerLaws.{done_same, never_done, then_both}
 use Rattle.codec.specs.Lists.{no_image}
 use Rattle.codec.specs.Columns.{AllChecked, none, more}
@@ -94,6 +96,30 @@ texts_at (more {im} {ims} c cs) (n ∷ ns) {texts} h (suc k) d e l =
     let behind = texts_at cs ns s.rest k d e (omega arith) in
     (omega (arith, behind.0), behind.1 ∙ ap (λ (x : List (List ℕ)). done (get_or x (suc k) [])) s.joined)
 
+-- What is left of a list from a place on.
+
+-- begins with the item there
+dropped_item : {A : Type 0} (l : List A) (k : ℕ) (d : A) {x : A} {rest : List A} → x ∷ rest ≡ drop k l → x ≡ get_or l k d
+dropped_item l k d h = ap (λ (m : List _). get_or m 0 d) (h ∙ drop-cons l k d (omega (arith, ap length h, length-drop k l)))
+
+-- and then has what is left from the next place on
+dropped_next : {A : Type 0} (l : List A) (k : ℕ) {x : A} {rest : List A} → x ∷ rest ≡ drop k l → rest ≡ drop (k + 1) l
+dropped_next l k h = ap (drop 1) h ∙ drop-drop 1 k l
+
+-- What a walk over images and numbers has before column k: what is left of each.
+pub record Columns (ims : List Image) (ns : List Number) (k : ℕ) (ims_left : List Image) (ns_left : List Number) : Type 0 where
+  pub images : ims_left ≡ drop k ims
+  pub numbers : ns_left ≡ drop k ns
+
+-- what is left of each begins with the column's own
+pub columns_at :
+    {ims ims_left others : List Image} {ns ns_left rest : List Number} {k : ℕ} {im : Image} {n : Number}
+    → Columns ims ns k others rest
+    → others ≡ im ∷ ims_left
+    → rest ≡ n ∷ ns_left
+    → Columns ims ns k (im ∷ ims_left) (n ∷ ns_left)
+columns_at p a b = record { images = sym a ∙ p.images; numbers = sym b ∙ p.numbers }
+
 -- Writing the texts of numbers, each under its image.
 module _ {ims : List Image} {ns : List Number} (has : HasTexts ims ns) where
   -- the texts
@@ -150,45 +176,73 @@ module _ {ims : List Image} {ns : List Number} (has : HasTexts ims ns) where
         subst₂ (λ (l : List ℕ) (n : ℕ). Separated l n k) (sym first.1) (sym first.2)
         (subst (λ (l : List ℕ). Coming now out l (record_line texts_of)) (rest_first k texts_of first.0 more) w))
 
-  -- a column has a number
-  pub number_there : (k : ℕ) → k < length ims → k < length ns
-  number_there k h = (texts_at has.checked ns texts_exist k no_image (record { negative = false; mantissa = 0; exponent = 0 }) (omega (arith, texts_long))).0
+  -- it ends where either list does, since a column has a number
+  pub columns_end : (k : ℕ) {ims_left : List Image} {ns_left : List Number} → Columns ims ns k ims_left ns_left → (length ims_left ≡ 0) ⊎ (length ns_left ≡ 0) → length ims ≤ k
+  columns_end k p e =
+      ⊎_elim
+      (λ none. omega (arith, none, ap length p.images, length-drop k ims))
+      (λ none.
+      ⊎_elim (λ over. over)
+      (λ inside.
+      absurd
+      (omega (
+        arith,
+        none,
+        ap length p.numbers,
+        length-drop k ns,
+        (texts_at has.checked ns texts_exist k no_image zero_number (omega (arith, texts_long, inside))).0,
+      )))
+      (le_or_lt (length ims) k))
+      e
 
-  module _
-      (k : ℕ) {now : List ℕ} {out : ℕ} (w : Separated now out k) (long : length now ≡ length (record_line texts_of)) (h : k < length ims)
-      (d : Image) (e : Number) where
-    -- what the call under the column's image answers
-    abbrev pub call_at : Answer (List ℕ)
-    call_at = writing_alpha_under (get_or ims k d) (get_or ns k e) (length (part_behind now out))
+  module _ (k : ℕ) {im : Image} {n : Number} {ims_left : List Image} {ns_left : List Number} (p : Columns ims ns k (im ∷ ims_left) (n ∷ ns_left)) where
+    -- the column is inside
+    pub column_inside : k < length ims
+    column_inside = omega (arith, ap length p.images, length-drop k ims)
 
-    -- has room for the text
-    text_room : out + length (get_or texts_of k []) ≤ length now
-    text_room = coming_room (get_or texts_of k []) (line_rest (k + 1) texts_of) w long
+    -- the next columns
+    pub columns_turn : Columns ims ns (k + 1) ims_left ns_left
+    columns_turn = record { images = dropped_next ims k p.images; numbers = dropped_next ns k p.numbers }
 
-    -- so that is written
-    writes : call_at ≡ done (get_or texts_of k [])
-    unfolding writing_alpha_under
-    writes =
-        then_both (within (length (part_behind now out))) (texts_at has.checked ns texts_exist k d e (omega (arith, texts_long))).1
-        (within_some (length (part_behind now out)) (get_or texts_of k []) (omega (arith, ap length (behind_all now out), length-drop out now, text_room)))
+    -- its text
+    column_text : alpha_under im n ≡ done (get_or texts_of k [])
+    column_text =
+        ap₂ alpha_under (dropped_item ims k no_image p.images) (dropped_item ns k zero_number p.numbers)
+        ∙ (texts_at has.checked ns texts_exist k no_image zero_number (omega (arith, texts_long, column_inside))).1
 
-    -- and not refused
-    pub text_written : {B : Type 0} {x y : ℕ} → refused x y ≡ sized call_at → B
-    unfolding sized
-    text_written p = never_done (p ∙ ap sized writes)
+    module _ {now : List ℕ} {out : ℕ} (w : Separated now out k) (long : length now ≡ length (record_line texts_of)) where
+      -- what the call under the column's image answers
+      abbrev pub call_at : Answer (List ℕ)
+      call_at = writing_alpha_under im n (length (part_behind now out))
 
-    module _ {size : ℕ} (p : done size ≡ sized call_at) where
-      -- its length
-      text_size : size ≡ length (get_or texts_of k [])
+      -- has room for the text
+      text_room : out + length (get_or texts_of k []) ≤ length now
+      text_room = coming_room (get_or texts_of k []) (line_rest (k + 1) texts_of) w long
+
+      -- so that is written
+      writes : call_at ≡ done (get_or texts_of k [])
+      unfolding writing_alpha_under
+      writes =
+          then_both (within (length (part_behind now out))) column_text
+          (within_some (length (part_behind now out)) (get_or texts_of k []) (omega (arith, ap length (behind_all now out), length-drop out now, text_room)))
+
+      -- and not refused
+      pub text_written : {B : Type 0} {x y : ℕ} → refused x y ≡ sized call_at → B
       unfolding sized
-      text_size = done_same (p ∙ ap sized writes)
+      text_written told = never_done (told ∙ ap sized writes)
 
-      pub text_fits : out + size ≤ length now
-      text_fits = omega (arith, text_room, text_size)
+      module _ {size : ℕ} (told : done size ≡ sized call_at) where
+        -- its length
+        text_size : size ≡ length (get_or texts_of k [])
+        unfolding sized
+        text_size = done_same (told ∙ ap sized writes)
 
-      -- and what comes behind it
-      pub text_turns : {last : List ℕ} → last ≡ stored_in call_at (part_behind now out) → Texting (put_behind now out last) (out + size) (k + 1)
-      text_turns q =
-          let text : List ℕ = get_or texts_of k [] in
-          coming_bytes text (line_rest (k + 1) texts_of) w long text_size
-          (part_written now out text (q ∙ ap (λ (a : Answer (List ℕ)). stored_in a (part_behind now out)) writes))
+        pub text_fits : out + size ≤ length now
+        text_fits = omega (arith, text_room, text_size)
+
+        -- and what comes behind it
+        pub text_turns : {last : List ℕ} → last ≡ stored_in call_at (part_behind now out) → Texting (put_behind now out last) (out + size) (k + 1)
+        text_turns q =
+            let text : List ℕ = get_or texts_of k [] in
+            coming_bytes text (line_rest (k + 1) texts_of) w long text_size
+            (part_written now out text (q ∙ ap (λ (a : Answer (List ℕ)). stored_in a (part_behind now out)) writes))

@@ -13,7 +13,9 @@ use mathlib.Core.Bool.{Bool, true, false}
 use lib.Dec.{eqb}
 use lib.ListN.{length, take, drop, get_or, set, length-append, length-drop, drop_of_length-le}
 use lib.Seq.{take-suc-set, drop-length, append_snoc, set_split, drop-drop, take_all, take-length, length-take-le}
-use Rattle.std.proofs.lemmas.List.{drop-set, take-append-le}
+use Rattle.std.proofs.lemmas.List.{take-append-le}
+use Rattle.std.proofs.lemmas.Fmt.{decimal_digit, decimal_step}
+use Rattle.std.specs.Fmt.{decimal}
 use Rattle.decimal.specs.Answer.{done, pick}
 use Rattle.decimal.specs.Digits.{digits_of, value_of, zeros, Digits}
 use Rattle.decimal.proofs.PowerLaws.{pow10_pos, pow10_suc, pow10_mono}
@@ -321,16 +323,6 @@ decimal_value n below = go (filled_places (whole_digits - 1) n below)
         one_place zero fills h = ap (λ (m : ℕ). m % 10 ∷ []) (div-one n) ∙ ap (λ (m : ℕ). m ∷ []) (mod-eq_of_lt h)
         one_place (suc k) fills h = ⊎_elim (λ e. absurd (omega arith)) (λ low. absurd (omega (arith, pow10_suc k, pow10_pos k))) fills
 
--- they are as many as its bytes
-pub decimal_shown : (n : ℕ) → n < 10 ^ whole_digits → decimal_text n ≡ digit_bytes (digits_of (length (decimal_text n)) n)
-decimal_shown n below =
-    let d = decimal_value n below in
-    let ds = d.digits in
-    d.shown
-    ∙ ap digit_bytes (sym (digits_of_value ds d.below_ten))
-    ∙ ap (λ (m : ℕ). digit_bytes (digits_of (length ds) m)) d.value
-    ∙ ap (λ (m : ℕ). digit_bytes (digits_of m n)) (sym (ap length d.shown ∙ digit_bytes_length ds))
-
 -- a number of at most 20 digits fills no more
 few_places : (n k : ℕ) → n < 10 ^ whole_digits → 10 ^ k ≤ n → k < whole_digits
 few_places n k below low = ⊎_elim (λ many. absurd (omega (arith, pow10_mono many))) (λ few. few) (le_or_lt whole_digits k)
@@ -382,7 +374,7 @@ digits_counted value others below low high =
 pub none_counted : (value : ℕ) → value ≡ 0 → 1 ≡ length (decimal_text value)
 none_counted value e = sym (ap (λ (n : ℕ). length (decimal_text n)) e ∙ ap length known_decimals.none)
 
--- A number written from its last digit on: the digits to come, written before those that stand, make the whole text.
+-- The text that the library writes.
 
 -- digits put behind digits have their bytes behind theirs
 digit_bytes_append : (xs ys : List ℕ) → digit_bytes (xs ++ ys) ≡ digit_bytes xs ++ digit_bytes ys
@@ -390,34 +382,33 @@ unfolding digit_bytes
 digit_bytes_append [] ys = refl
 digit_bytes_append (x ∷ xs) ys = ap (λ (l : List ℕ). (zero_byte + x) ∷ l) (digit_bytes_append xs ys)
 
--- all digits are to come
-pub decimal_start :
-    (n : ℕ) (target : List ℕ) → n < 10 ^ whole_digits → length target ≡ length (decimal_text n)
-    → digit_bytes (digits_of (length target) n) ++ drop (length target) target ≡ decimal_text n
-decimal_start n target below e =
-    ap₂ (λ (k : ℕ) (l : List ℕ). digit_bytes (digits_of k n) ++ l) e (drop-length target)
-    ∙ append-nil (digit_bytes (digits_of (length (decimal_text n)) n))
-    ∙ sym (decimal_shown n below)
+-- of a number that fills k + 1 digits and has no more it writes them
+library_filled : (k n : ℕ) → n < 2 ^ 64 → n < 10 ^ suc k → Fills n k → decimal n ≡ digit_bytes (digits_of (suc k) n)
+unfolding Fills digits_of digit_bytes
+library_filled zero n small below fills =
+    decimal_digit n (omega arith)
+    ∙ ap (λ (m : ℕ). (zero_byte + m) ∷ []) (sym (ap (λ (m : ℕ). m % 10) (div-one n) ∙ mod-eq_of_lt (omega arith)))
+library_filled (suc k) n small below fills =
+    let low : 10 ^ suc k ≤ n = ⊎_elim (λ e. absurd (omega arith)) (λ h. h) fills in
+    decimal_step n (omega (arith, low, pow10_suc k, pow10_pos k)) small
+    ∙ ap (λ (l : List ℕ). l ++ ((zero_byte + n % 10) ∷ []))
+    (library_filled k (n / 10) (omega (arith, small)) (omega (arith, below, pow10_suc (suc k))) (inr (omega (arith, low, pow10_suc k))))
+    ∙ sym (ap digit_bytes (digits_last (suc k) n) ∙ digit_bytes_append (digits_of (suc k) (n / 10)) (n % 10 ∷ []))
 
--- the last of them is written
-pub decimal_turn :
-    (target : List ℕ) (j rest : ℕ) → 0 < j → j ≤ length target
-    → digit_bytes (digits_of (j - 1) (rest / 10)) ++ drop (j - 1) (set target (j - 1) (zero_byte + rest % 10))
-    ≡ digit_bytes (digits_of j rest) ++ drop j target
-unfolding digit_bytes
-decimal_turn target zero rest more room = absurd (omega arith)
-decimal_turn target (suc j) rest more room =
-    let ds = digits_of j (rest / 10) in
-    let last = zero_byte + rest % 10 in
-    let e : suc j - 1 ≡ j = omega arith in
-    let tail : drop j (set target j last) ≡ last ∷ drop (suc j) target =
-    drop-set target j last (omega arith) ∙ ap (λ (k : ℕ). last ∷ drop k target) (add-one j) in
-    ap (λ (k : ℕ). digit_bytes (digits_of k (rest / 10)) ++ drop k (set target k last)) e
-    ∙ ap (λ (l : List ℕ). digit_bytes ds ++ l) tail
-    ∙ sym (append_snoc (digit_bytes ds) last (drop (suc j) target))
-    ∙ ap (λ (l : List ℕ). l ++ drop (suc j) target) (sym (ap digit_bytes (digits_last j rest) ∙ digit_bytes_append ds (rest % 10 ∷ [])))
+-- and so it writes each number's decimal text
+pub decimal_library : (n : ℕ) → n < 2 ^ 64 → decimal n ≡ decimal_text n
+decimal_library n small =
+    let p = filled_places (whole_digits - 1) n (omega (arith, small)) in
+    library_filled p.0 n small p.2 p.3 ∙ sym (decimal_filled n p.0 (omega (arith, p.1)) p.2 p.3)
 
--- no digit is to come
-pub decimal_end : (target text : List ℕ) (j rest : ℕ) → j ≡ 0 → digit_bytes (digits_of j rest) ++ drop j target ≡ text → target ≡ text
-unfolding digit_bytes digits_of
-decimal_end target text j rest e h = sym (ap (λ (k : ℕ). digit_bytes (digits_of k rest) ++ drop k target) e) ∙ h
+-- written to the end of bytes of its length, it is all of them
+pub decimal_whole :
+    (n : ℕ) (old new : List ℕ) (start : ℕ) → n < 2 ^ 64 → length old ≡ length (decimal_text n)
+    → start + length (decimal n) ≡ length old → drop start new ≡ decimal n ++ drop (length old) old → new ≡ decimal_text n
+decimal_whole n old new start small e first put =
+    let none : start ≡ 0 = omega (arith, e, first, ap length (decimal_library n small)) in
+    ap (λ (k : ℕ). drop k new) (sym none)
+    ∙ put
+    ∙ ap (λ (l : List ℕ). decimal n ++ l) (drop-length old)
+    ∙ append-nil (decimal n)
+    ∙ decimal_library n small

@@ -1,16 +1,14 @@
 -- Document 01, Print lines: a number or a text in a field, and a field read back.
-use Rattle.std.specs.Prelude.{ℕ, ◌+◌, ◌≤◌, ◌<◌, ◌≡◌, List, [], ◌∷◌, Bool, true, false, not, ◌&&◌, length, take, drop, get_or, set, ltb, eqb}
+use Rattle.std.specs.Prelude.{ℕ, ◌+◌, ◌≤◌, ◌≡◌, List, [], ◌∷◌, Bool, true, false, not, ◌&&◌, length, take, drop, get_or, set, ltb, eqb}
 use Rattle.decimal.specs.declared.image.Image.{Image}
 use Rattle.decimal.specs.declared.number.Number.{Number}
 use Rattle.decimal.specs.Answer.{Answer, done, refused, ◌then◌, pick}
 use Rattle.decimal.specs.Digits.{precision, digits_of}
 use Rattle.decimal.specs.Image.{plus_byte, minus_byte, hash_byte, point_byte, comma_byte, hashes, scanned_image}
 use Rattle.decimal.specs.Truncation.{Truncated, truncation}
-use Rattle.decimal.specs.declared.truncation.Truncation.{Truncation}
 use Rattle.codec.specs.Lists.{filled}
 use Rattle.codec.specs.Columns.{sign_count}
 use Rattle.codec.specs.Alpha.{blank_byte, zero_byte, alpha_text}
-use Rattle.codec.specs.Packing.{Held}
 use Rattle.codec.specs.Text.{convert_text}
 use Rattle.records.specs.Scanning.{Field, IsField}
 use Rattle.records.specs.declared.marks.Marks.{Marks}
@@ -121,11 +119,6 @@ read_field field = read_marked document_marks field
 unfoldable pub hash_count : List ℕ → ℕ
 hash_count [] = 0
 hash_count (b ∷ bs) = pick (eqb b hash_byte) 1 0 + hash_count bs
-
--- a byte of a field can be filled: the truncation is held, and a digit is left for a #
-pub record Fillable (im : Image) (t : Truncation) (fill : Fill) (byte : ℕ) : Type 0 where
-  pub held : Held im t
-  pub left : byte ≡ hash_byte → fill.used < hashes im
 
 -- the place of the point in the alpha text under an image
 unfoldable pub point_place : Image → ℕ

@@ -9,17 +9,17 @@ ghost use Rattle.decimal.specs.Truncation.{Truncated};
 ghost use Rattle.codec.specs.Lists.{filled};
 ghost use Rattle.codec.specs.Alpha.{blank_byte, text_length};
 ghost use Rattle.codec.specs.Packing.{held_by, Held};
-ghost use Rattle.records.specs.Fields.{next_digit, sign_byte_of, fill_byte, fill_next, fill_bytes, nothing_filled};
+ghost use Rattle.records.specs.Fields.{next_digit, fill_byte, fill_next, fill_bytes, nothing_filled};
 ghost use Rattle.records.specs.Fields.{number_marked, number_in, or_field, spilled_by, element_bytes, FieldImage, read_marked, read_field};
-ghost use Rattle.records.specs.Fields.{Fillable, hash_count, point_place, point_marked};
+ghost use Rattle.records.specs.Fields.{hash_count, point_place, point_marked};
 ghost use Rattle.records.specs.Printing.{check_element};
 
-use crate::marks::{DOCUMENT_MARKS, Marks, is_dropped, read_byte};
+use crate::marks::{DOCUMENT_MARKS, Marks};
 use arrayvec::ArrayVec;
-use codec::{NO_NUMBER, convert, write_alpha_under};
-use decimal::{Image, Number, PRECISION, Refusal, Sign, Truncation, truncate};
+use codec::{NO_NUMBER, convert, sign_byte, sign_count, write_alpha_under};
+use decimal::{Image, Number, PRECISION, Refusal, Truncation, sign_of, truncate};
 
-// An element of a line: a number, or a text by start and length into lent bytes.
+// An element of a line: a number, or a text by a start and a length into lent bytes, document 01's form.
 #[derive(Clone, Copy, Debug, PartialEq, Eq, Hash)]
 pub enum Element {
     Number(Number),
@@ -43,103 +43,83 @@ pub(crate) struct Fill {
     pub used: usize,
 }
 
-// What is known of a field, its image and a truncation stands in the contracts and not in a type: a field is a part of the lent line, and
-// the other two are the plain structs of the layers below.
-
-// The next digit of a number that fills a field.
-fn next_digit(image: Image, truncation: Truncation, fill: Fill) -> u8
-    requires { (Held image truncation) × (fill.used < hashes image) }
-    ensures { result ≡ next_digit image (held_by truncation) fill }
-{
-    let behind = image.integer as usize + image.fraction as usize - 1 - fill.used;
-    ((truncation.halves >> (4 * behind)) & 15) as u8
+// A number as it fills a fixed-point field: the field's image, the number's truncation under it, and the marks.
+#[derive(Clone, Copy)]
+struct FieldNumber {
+    image: Image,
+    truncation: Truncation,
+    marks: Marks,
+    ghost held: { Held image truncation },
 }
 
-// Whether the next digit is a leading zero that becomes the filling byte.
-fn is_suppressed(image: Image, digit: u8, fill: Fill) -> bool
-    requires { (hashes image ≤ precision) × (fill.used < hashes image) }
-    ensures { result ≡ (not fill.shown && (eqb digit 0 && ltb (fill.used + 1) image.integer)) }
-{
-    !fill.shown && digit == 0 && fill.used + 1 < image.integer as usize
-}
-
-// The byte of a sign in the field.
-#[tactic(auto, unfolding(crate::specs::Fields::sign_byte_of))]
-fn sign_byte(byte: u8, negative: bool) -> u8
-    ensures { result ≡ sign_byte_of byte negative }
-{
-    if negative {
-        b'-'
-    } else if byte == b'+' {
-        b'+'
-    } else {
-        b' '
+// That a digit is left for each # stands in the contracts: it is of what was filled so far, which changes with each byte.
+impl FieldNumber {
+    // The next digit that fills the field.
+    fn next_digit(&self, fill: Fill) -> u8
+        requires { fill.used < hashes self.now.image }
+        ensures { result ≡ next_digit self.now.image (held_by self.now.truncation) fill }
+    {
+        let behind = self.image.hashes() - 1 - fill.used;
+        ((self.truncation.halves >> (4 * behind)) & 15) as u8
     }
-}
 
-// What stands for a comma: the thousands mark, or the filling byte where no digit stands before it.
-fn comma_byte(marks: Marks, shown: bool) -> u8
-    ensures { result ≡ pick shown marks.thousands marks.filling }
-{
-    if shown {
-        marks.thousands
-    } else {
-        marks.filling
+    // Whether the next digit is a leading zero that becomes the filling byte.
+    fn is_suppressed(&self, digit: u8, fill: Fill) -> bool
+        requires { fill.used < hashes self.now.image }
+        ensures { result ≡ (not fill.shown && (eqb digit 0 && ltb (fill.used + 1) self.now.image.integer)) }
+    {
+        !fill.shown && digit == 0 && fill.used + 1 < usize::from(self.image.integer)
     }
-}
 
-// The byte printed for a byte of the field, which then counts as filled.
-#[tactic(auto, unfolding(crate::specs::Fields::fill_byte, crate::specs::Fields::fill_next))]
-fn fill_byte(image: Image, truncation: Truncation, marks: Marks, fill: &mut Fill, byte: u8) -> u8
-    requires { Fillable image truncation fill.old byte }
-    ensures printed { result ≡ fill_byte marks image (held_by truncation) fill.old byte }
-    ensures counted { fill.new ≡ fill_next image (held_by truncation) fill.old byte }
-{
-    match byte {
-        b'#' => {
-            let digit = next_digit(image, truncation, *fill);
-            let suppressed = is_suppressed(image, digit, *fill);
-            fill.shown = !suppressed;
-            fill.used += 1;
-            if suppressed {
-                marks.filling
-            } else {
-                b'0' + digit
+    // The byte printed for a byte of the field, which then counts as filled.
+    #[tactic(auto, using(crate::proofs::FieldLaws::sign_shown_of), unfolding(crate::specs::Fields::fill_byte, crate::specs::Fields::fill_next))]
+    fn fill_byte(&self, fill: &mut Fill, byte: u8) -> u8
+        requires { byte ≡ hash_byte → fill.old.used < hashes self.now.image }
+        ensures printed { result ≡ fill_byte self.now.marks self.now.image (held_by self.now.truncation) fill.old byte }
+        ensures counted { fill.new ≡ fill_next self.now.image (held_by self.now.truncation) fill.old byte }
+    {
+        match byte {
+            b'#' => {
+                let digit = self.next_digit(*fill);
+                let suppressed = self.is_suppressed(digit, *fill);
+                fill.shown = !suppressed;
+                fill.used += 1;
+                if suppressed {
+                    self.marks.filling
+                } else {
+                    b'0' + digit
+                }
             }
+            b',' => self.marks.comma_byte(fill.shown),
+            b'.' => {
+                fill.shown = true;
+                self.marks.decimal
+            }
+            _ => sign_byte(sign_of(byte), self.truncation.negative),
         }
-        b',' => comma_byte(marks, fill.shown),
-        b'.' => {
-            fill.shown = true;
-            marks.decimal
-        }
-        _ => sign_byte(byte, truncation.negative),
     }
-}
 
-// Writes a number into a fixed-point field, in the place of the field's own bytes.
-fn write_fixed(field: &mut [u8], image: Image, truncation: Truncation, marks: Marks)
-    requires { (Held image truncation) × (hash_count field.old ≤ hashes image) }
-    ensures { field.new ≡ fill_bytes marks image (held_by truncation) nothing_filled field.old }
-{
-    let mut fill = Fill {
-        shown: false,
-        used: 0,
-    };
-    for byte in field.iter_mut() {
-        *byte = fill_byte(image, truncation, marks, &mut fill, *byte);
+    // Writes the number into the field, in the place of the field's own bytes.
+    fn write(&self, field: &mut [u8])
+        requires { hash_count field.old ≤ hashes self.now.image }
+        ensures { field.new ≡ fill_bytes self.now.marks self.now.image (held_by self.now.truncation) nothing_filled field.old }
+    {
+        let mut fill = Fill {
+            shown: false,
+            used: 0,
+        };
+        for byte in field.iter_mut() {
+            *byte = self.fill_byte(&mut fill, *byte);
+        }
     }
 }
 
 // The place of the point in the alpha text under an image.
 #[tactic(auto, unfolding(crate::specs::Fields::point_place))]
 fn point_place(image: Image) -> usize
-    requires { hashes image ≤ precision }
     ensures { result ≡ point_place image }
 {
-    match image.sign {
-        Sign::Unsigned => image.integer as usize,
-        Sign::Plus | Sign::Minus => 1 + image.integer as usize,
-    }
+    sign_count(image.sign) + usize::from(image.integer)
 }
 
 // Puts the decimal mark for the point of an alpha text.
@@ -153,6 +133,9 @@ fn mark_point(image: Image, marks: Marks, text: &mut [u8])
         text[place] = marks.decimal;
     }
 }
+
+// What is known of a field's bytes and its image stands in the contracts and not in a type: write_number and write_exponential write over
+// those bytes, and write_element, which only reads its field, hands the same fact on to write_number.
 
 // Writes a number into an exponential field, as alpha text; the field's own bytes stay where it is spilled.
 fn write_exponential(field: &mut [u8], image: Image, number: Number, marks: Marks)
@@ -171,10 +154,13 @@ fn write_number(field: &mut [u8], image: Image, number: Number, marks: Marks)
 {
     if image.exponential {
         write_exponential(field, image, number, marks);
-        return;
-    }
-    if let Ok(truncation) = truncate(image, number, 0) {
-        write_fixed(field, image, truncation, marks);
+    } else if let Ok(truncation) = truncate(image, number, 0) {
+        let shown = FieldNumber {
+            image,
+            truncation,
+            marks,
+        };
+        shown.write(field);
     }
 }
 
@@ -190,6 +176,7 @@ fn write_text(text: &[u8], target: &mut [u8])
 }
 
 // Writes what an element prints in a field, as many bytes as the field has.
+#[tactic(auto, using(crate::proofs::FieldLaws::text_inside), unfolding(crate::specs::Fields::element_bytes, crate::specs::Fields::text_in))]
 pub(crate) fn write_element(
     texts: &[u8],
     field: &[u8],
@@ -218,13 +205,12 @@ fn read_marked(field: &[u8], marks: Marks) -> Result<Number, Refusal>
     ensures { meaning result ≡ read_marked marks field.now }
 {
     let mut kept: ArrayVec<u8, TEXT_ROOM> = ArrayVec::new();
-    for &byte in field {
-        if !is_dropped(marks, byte) {
-            if kept.is_full() {
-                return NO_NUMBER;
-            }
-            kept.push(read_byte(marks, byte));
-        }
+    let read = field
+        .iter()
+        .filter(|byte| !marks.is_dropped(**byte))
+        .map(|byte| marks.read_byte(*byte));
+    if kept.extend(read).is_err() {
+        return Err(NO_NUMBER);
     }
     convert(kept.as_slice())
 }

@@ -35,6 +35,7 @@ pub fn write_contents(contents: &[u8], buffer: &mut [u8]) -> Result<usize, Refus
 }
 
 // The contents of a file: refused as the contents is, then with 11 where a last body is incomplete.
+#[tactic(auto, using(crate::proofs::FileLaws::file_first, crate::proofs::FileLaws::size_within, crate::proofs::FileLaws::body_some, crate::proofs::FileLaws::file_whole, crate::proofs::FileLaws::file_torn), unfolding(decimal::specs::Answer::mapped))]
 pub fn read_file(file: &[u8]) -> Result<Contents, Refusal>
     ensures { meaning result ≡ mapped contents_of (read_file file.now) }
 {
@@ -48,6 +49,7 @@ pub fn read_file(file: &[u8]) -> Result<Contents, Refusal>
 
 // The contents of the file in the first bytes of a buffer, behind which a record can be added: refused with 11 for a used length past
 // the buffer, then as the file is.
+#[tactic(auto, unfolding(decimal::specs::Answer::mapped, crate::specs::Files::read_used))]
 fn read_used(buffer: &[u8], used: usize) -> Result<Contents, Refusal>
     ensures { meaning result ≡ mapped contents_of (read_used buffer.now used) }
 {
@@ -63,12 +65,14 @@ pub fn add(used: usize, numbers: &[Number], buffer: &mut [u8]) -> Result<usize, 
     ensures answer { meaning result ≡ new_length used (added buffer.old used numbers.now) }
     ensures bytes { buffer.new ≡ written_behind used (added buffer.old used numbers.now) buffer.old }
 {
+    // The used length stands beside the buffer: document 01's call.
     let table = read_used(&*buffer, used)?;
     let size = pack_under(&table.images, numbers, &mut buffer[used..])?;
     Ok(used + size)
 }
 
 // Where the body of a record stands in a file, by its number from 0: refused as the file is, then with 12.
+#[tactic(auto, using(crate::proofs::FileLaws::shown_refused, crate::proofs::FileLaws::read_within, crate::proofs::FileLaws::read_some, crate::proofs::FileLaws::read_none, crate::proofs::FileLaws::read_shown), unfolding(decimal::specs::Answer::mapped))]
 pub fn show(file: &[u8], index: usize) -> Result<Range<usize>, Refusal>
     ensures { meaning result ≡ mapped range_of (shown file.now index) }
 {

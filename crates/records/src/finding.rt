@@ -9,12 +9,13 @@ ghost use Rattle.records.specs.Finding.{begins_field, field_of, Listed};
 use crate::printing::ELEMENTS;
 use crate::scanning::{Scanned, scan_field};
 use arrayvec::ArrayVec;
-use decimal::{Image, PRECISION, Reason, Refusal, sign_of};
+use decimal::{Image, Refusal, check_digits, sign_of};
 
 // The most fields of a line that a print call uses: those of its elements, and one that it ends before.
 pub(crate) const FIELDS: usize = ELEMENTS + 1;
 
-// A field of a line: its start, its length and its image.
+// A field of a line: its start, its length and its image. No Range, which is no Copy and would be cloned at each use.
+// The two numbers are u16, so that a line's fields take little memory.
 #[derive(Clone, Copy, Default)]
 pub(crate) struct Field {
     pub start: u16,
@@ -36,7 +37,9 @@ fn next_start(bytes: &[u8]) -> Option<usize>
     bytes.iter().position(|&byte| begins(byte))
 }
 
-// The field that was scanned of the bytes from a place on.
+// The field that was scanned of the bytes from a place on. Its image is made as read_image makes one, of other counts: both are checked by
+// check_digits.
+#[tactic(auto, using(crate::proofs::FindLaws::scanned_few))]
 fn field_at(bytes: &[u8], at: usize, scanned: Scanned) -> Field
     requires { (at + length bytes.now ≤ max_line) × (scanned ≡ scanned_field bytes.now) × (0 < scanned.length) × (scanned.integer + scanned.fraction ≤ precision) }
     ensures { result ≡ field_of at bytes.now }
@@ -70,19 +73,14 @@ pub(crate) fn find_fields(line: &[u8]) -> Result<ArrayVec<Field, FIELDS>, Refusa
         let scanned = scan_field(bytes);
         if scanned.length == 0 {
             at += 1;
-        } else {
-            if PRECISION < scanned.integer + scanned.fraction {
-                return Err(Refusal {
-                    reason: Reason::TooManyDigits,
-                    place: count,
-                });
-            }
-            if !fields.is_full() {
-                fields.push(field_at(bytes, at, scanned));
-            }
-            count += 1;
-            at += scanned.length;
+            continue;
         }
+        check_digits(scanned.integer + scanned.fraction, count)?;
+        if !fields.is_full() {
+            fields.push(field_at(bytes, at, scanned));
+        }
+        count += 1;
+        at += scanned.length;
     }
     Ok(fields)
 }

@@ -1,10 +1,14 @@
 // Printing a line image with its elements (document 01: Print lines).
-ghost use Rattle.std.specs.Prelude.{◌≡◌, List, ℕ, length, IfOk};
+ghost use Rattle.std.specs.Prelude.{◌≡◌, ◌≤◌, List, ℕ, eqb, length, IfOk};
+ghost use Rattle.std.specs.Result.{OnOk};
 ghost use Rattle.decimal.specs.Answer.{meaning, mapped, checked_only};
 ghost use Rattle.decimal.specs.Image.{scanned_image};
 ghost use Rattle.codec.specs.Answers.{stored_in, written};
 ghost use Rattle.records.specs.Fields.{element_spills};
 ghost use Rattle.records.specs.Printing.{
+  max_elements,
+  max_line,
+  check_counts,
   check_element,
   check_elements,
   line_checks,
@@ -37,36 +41,46 @@ pub struct Printed {
 }
 
 // Whether an element can be printed: refused with 13 or 3.
+#[tactic(auto, unfolding(crate::specs::Printing::check_element))]
 fn check_element(element: Element, room: usize, index: usize) -> Result<(), Refusal>
     ensures { meaning result ≡ check_element room index element }
 {
     match element {
-        Element::Number(number) => {
-            number.checked(index)?;
-        }
-        Element::Text(start, length) => {
-            if room < start || room - start < length {
-                return Err(Refusal {
-                    reason: Reason::TextOutside,
-                    place: index,
-                });
-            }
-        }
+        Element::Number(number) => number.checked(index).map(|_| ()),
+        Element::Text(start, length) if room < start || room - start < length => Err(Refusal {
+            reason: Reason::TextOutside,
+            place: index,
+        }),
+        Element::Text(_, _) => Ok(()),
+    }
+}
+
+// Whether an element is spilled by a field with this image.
+#[tactic(auto, using(crate::proofs::FieldLaws::spilled_found), unfolding(crate::specs::Fields::element_spills))]
+fn is_spilled(image: Image, element: Element) -> bool
+    ensures { (field : List ℕ) → image ≡ scanned_image field → result ≡ eqb (element_spills field element) 1 }
+{
+    match element {
+        Element::Text(_, _) => false,
+        Element::Number(number) => fit(image, number, 0).is_err(),
+    }
+}
+
+// Whether a line can have so many elements and bytes: refused with 10.
+#[tactic(auto, using(crate::proofs::CheckLaws::counts_many, crate::proofs::CheckLaws::counts_long, crate::proofs::CheckLaws::counts_done))]
+fn check_counts(count: usize, length: usize) -> Result<(), Refusal>
+    ensures answer { meaning result ≡ check_counts count length }
+    ensures within { OnOk result ((count ≤ max_elements) × (length ≤ max_line)) }
+{
+    if ELEMENTS < count || LINE_LENGTH < length {
+        return Err(Refusal::WRONG_COUNT);
     }
     Ok(())
 }
 
-// 1 where an element is spilled by a field with this image, else 0.
-fn spill(image: Image, element: Element) -> usize
-    ensures { (field : List ℕ) → image ≡ scanned_image field → result ≡ element_spills field element }
-{
-    match element {
-        Element::Text(_, _) => 0,
-        Element::Number(number) => { if fit(image, number, 0).is_ok() { 0 } else { 1 } }
-    }
-}
-
 // Checks the elements from the left: refused with 13 or 3.
+// A loop of its own, as each list that is checked has: one function for all would take the check as a closure, and be no shorter to call.
+#[tactic(auto, using(crate::proofs::CheckLaws::elements_refused, crate::proofs::CheckLaws::elements_next), unfolding(crate::specs::Printing::check_elements))]
 fn check_elements(elements: &[Element], room: usize) -> Result<(), Refusal>
     ensures { meaning result ≡ check_elements room 0 elements.now }
 {
@@ -78,6 +92,7 @@ fn check_elements(elements: &[Element], room: usize) -> Result<(), Refusal>
 
 // The first fields of a line that can be printed with the elements.
 // Refused with 10, with 2 and the field, with 9, elements from the left with 13 or 3.
+#[tactic(auto, using(crate::proofs::CheckLaws::line_counts, crate::proofs::CheckLaws::line_fields_lem, crate::proofs::PrintCallLaws::line_listed), unfolding(decimal::specs::Answer::checked_only))]
 fn check_line(
     line: &[u8],
     elements: &[Element],
@@ -86,11 +101,10 @@ fn check_line(
     ensures listed { IfOk result (λ fields. Listed line.now fields.items) }
     ensures answer { checked_only (meaning result) ≡ line_checks line.now elements.now room }
 {
-    if ELEMENTS < elements.len() || LINE_LENGTH < line.len() {
-        return Err(Refusal::WRONG_COUNT);
-    }
+    check_counts(elements.len(), line.len())?;
     let fields = find_fields(line)?;
-    let has_elements = 0 < elements.len();
+    // By name, for the edit nine_without_elements.
+    let has_elements = !elements.is_empty();
     if fields.is_empty() && has_elements {
         return Err(Refusal {
             reason: Reason::NoField,
@@ -102,7 +116,7 @@ fn check_line(
 }
 
 // The bytes and the spilled count that a line prints, for a line that has a field or no elements.
-// The outer loop goes over lines and is left from inside when the elements run out: document 01's form.
+// The outer loop goes over lines and is left from inside when the elements run out, as in write_lines.
 fn measure(line: &[u8], fields: &[Field], elements: &[Element]) -> Printed
     requires { (LineReady line.now elements.now) × (Listed line.now fields.now) }
     ensures { (texts : List ℕ) → (result.bytes ≡ length (print_from texts line.now line.now elements.now).bytes) × (result.spilled ≡ (print_from texts line.now line.now elements.now).spilled) }
@@ -113,14 +127,14 @@ fn measure(line: &[u8], fields: &[Field], elements: &[Element]) -> Printed
     'lines: loop {
         let mut at = 0;
         for field in fields {
-            let start = field.start as usize;
-            let length = field.length as usize;
+            let start = usize::from(field.start);
+            let length = usize::from(field.length);
             bytes += start - at;
             let [element, rest @ ..] = left else {
                 break 'lines;
             };
             bytes += length;
-            spilled += spill(field.image, *element);
+            spilled += usize::from(is_spilled(field.image, *element));
             left = rest;
             at = start + length;
         }
@@ -133,8 +147,8 @@ fn measure(line: &[u8], fields: &[Field], elements: &[Element]) -> Printed
     Printed { bytes, spilled }
 }
 
-// Writes what a line prints, from the buffer's start on, for a line that has a field or no elements.
-// Its loops are those of measure.
+// Writes what a line prints, from the buffer's start on, by document 01's labelled loop, for a line that has a field or no elements.
+// One walk for this and measure would take a trait for the three parts of a line and two impls: longer than the loops.
 fn write_lines(line: &[u8], fields: &[Field], elements: &[Element], texts: &[u8], buffer: &mut [u8])
     requires { (PrintReady line.now elements.now texts.now (length buffer.old)) × (Listed line.now fields.now) }
     ensures { buffer.new ≡ written buffer.old 0 (print_from texts.now line.now line.now elements.now).bytes }
@@ -144,8 +158,8 @@ fn write_lines(line: &[u8], fields: &[Field], elements: &[Element], texts: &[u8]
     'lines: loop {
         let mut at = 0;
         for field in fields {
-            let start = field.start as usize;
-            let length = field.length as usize;
+            let start = usize::from(field.start);
+            let length = usize::from(field.length);
             let front = out + (start - at);
             buffer[out..front].copy_from_slice(&line[at..start]);
             out = front;
@@ -153,12 +167,11 @@ fn write_lines(line: &[u8], fields: &[Field], elements: &[Element], texts: &[u8]
                 break 'lines;
             };
             let end = start + length;
-            let image = field.image;
             let behind = out + length;
             write_element(
                 texts,
                 &line[start..end],
-                image,
+                field.image,
                 *element,
                 &mut buffer[out..behind],
             );
@@ -198,11 +211,10 @@ pub fn print(
 }
 
 // The forecast of a line of some length with so many elements: (elements + 1) * (length + 1); refused with 10.
+#[tactic(auto, using(crate::proofs::CheckLaws::forecast_done, crate::proofs::CheckLaws::forecast_refused))]
 pub fn forecast(length: usize, count: usize) -> Result<usize, Refusal>
     ensures { meaning result ≡ forecasting count length }
 {
-    if ELEMENTS < count || LINE_LENGTH < length {
-        return Err(Refusal::WRONG_COUNT);
-    }
+    check_counts(count, length)?;
     Ok((count + 1) * (length + 1))
 }

@@ -1,9 +1,9 @@
 // The field that starts at a place of a line image (document 01: Print lines).
 ghost use Rattle.std.specs.Prelude.{◌≡◌, drop};
 ghost use Rattle.decimal.specs.Image.{state_of};
-ghost use Rattle.records.specs.Scanning.{is_field_state, is_stopped, field_length, scanned_field};
+ghost use Rattle.records.specs.Scanning.{is_field_state, field_length, scanned_field};
 
-use decimal::{State, fraction_hash, integer_hash, is_exponential, next_state};
+use decimal::{State, hash_counts, is_exponential, next_state};
 
 // Whether the bytes that led to a state are a field.
 fn is_field(state: State) -> bool
@@ -19,15 +19,8 @@ fn is_field(state: State) -> bool
     )
 }
 
-// Whether no field begins as the bytes that led to a state.
-fn is_stopped(state: State) -> bool
-    ensures { result ≡ is_stopped (state_of state) }
-{
-    matches!(state, State::Stopped)
-}
-
 // The field that bytes begin with: its length, the # signs before and behind the point, and whether it is exponential.
-// Length 0 says that there is none, since document 01's scanner gives the length.
+// Length 0 says that there is none, as in what scan gives: the counts go on from the field before, which an Option would hide at each turn.
 #[derive(Clone, Copy)]
 pub(crate) struct Scanned {
     pub length: usize,
@@ -49,14 +42,15 @@ pub(crate) fn scan_field(bytes: &[u8]) -> Scanned
     let mut state = State::Start;
     for (index, byte) in bytes.iter().enumerate() {
         state = next_state(state, *byte);
-        if is_stopped(state) {
+        if state == State::Stopped {
             return scanned;
         }
         if is_field(state) {
+            let (before, behind) = hash_counts(state);
             scanned = Scanned {
                 length: index + 1,
-                integer: scanned.integer + integer_hash(state),
-                fraction: scanned.fraction + fraction_hash(state),
+                integer: scanned.integer + before,
+                fraction: scanned.fraction + behind,
                 exponential: is_exponential(state),
             };
         }

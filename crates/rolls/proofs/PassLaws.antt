@@ -1,5 +1,5 @@
 -- Laws of the pass over all records of a file: the keys that were read, whether they fall, and the walk over them. Assumes nothing.
-use Rattle.std.proofs.Common.{◌≡◌, ℕ, ◌+◌, ◌*◌, ◌<◌, ◌≤◌, Bool, true, false, ◌||◌, List, [], ◌∷◌, ◌++◌, Option, Some, None, length, take, drop, length-drop, get_or, ap, ap₂, refl, sym, ◌∙◌, arith, append_assoc, append-nil}
+use Rattle.std.proofs.Common.{◌≡◌, ℕ, ◌+◌, ◌-◌, ◌*◌, ◌/◌, ◌<◌, ◌≤◌, Bool, true, false, ◌||◌, List, [], ◌∷◌, ◌++◌, Option, Some, None, length, drop, length-drop, get_or, ap, ap₂, refl, sym, ◌∙◌, arith, append_assoc, append-nil}
 use Rattle.arrayvec.specs.ArrayVec.{ArrayVec}
 use Rattle.decimal.specs.declared.image.Image.{Image}
 use Rattle.decimal.specs.declared.number.Number.{Number}
@@ -62,21 +62,21 @@ pub record Read (ims : List Image) (body : List ℕ) (number : Number) : Type 0 
 abbrev pub nothing : Number
 nothing = record { negative = false; mantissa = 0; exponent = 0 }
 
-module _ {file : List ℕ} {c : Contents} (h : FileHeld file c) {ims : List Image} {bytes body : List ℕ} (e : ims ≡ c.images.items) (same : bytes ≡ body) where
+module _ {file : List ℕ} {c : Contents} (h : FileHeld file c) {ims : List Image} (e : ims ≡ c.images.items) (body : List ℕ) where
   -- a body that is refused
-  pub read_refused : {x y : ℕ} → mapped items_of (refused x y) ≡ unpack_under ims bytes → unpack_body h.table.images body ≡ refused x y
-  read_refused told = sym (told ∙ ap (unpack_under ims) same ∙ held_unpacks h e body) ∙ mapped_refused items_of refl
+  pub read_refused : {x y : ℕ} → mapped items_of (refused x y) ≡ unpack_under ims body → unpack_body h.table.images body ≡ refused x y
+  read_refused told = sym (told ∙ held_unpacks h e body) ∙ mapped_refused items_of refl
 
   -- a body that is read
-  pub read_numbers : {v : ArrayVec Number} → mapped items_of (done v) ≡ unpack_under ims bytes → unpack_body h.table.images body ≡ done v.items
-  read_numbers told = sym (told ∙ ap (unpack_under ims) same ∙ held_unpacks h e body) ∙ mapped_done items_of refl
+  pub read_numbers : {v : ArrayVec Number} → mapped items_of (done v) ≡ unpack_under ims body → unpack_body h.table.images body ≡ done v.items
+  read_numbers told = sym (told ∙ held_unpacks h e body) ∙ mapped_done items_of refl
 
   -- it has a first number
-  pub read_some : (v : ArrayVec Number) → mapped items_of (done v) ≡ unpack_under ims bytes → 0 < length v.items
+  pub read_some : (v : ArrayVec Number) → mapped items_of (done v) ≡ unpack_under ims body → 0 < length v.items
   read_some v told = omega (arith, unpacked_count h.table.images body (read_numbers told), h.sound.low)
 
   -- which is its key
-  pub read_key : {v : ArrayVec Number} {ns : List Number} → mapped items_of (done v) ≡ unpack_under ims bytes → ns ≡ v.items → Read h.table.images body (get_or ns 0 nothing)
+  pub read_key : {v : ArrayVec Number} {ns : List Number} → mapped items_of (done v) ≡ unpack_under ims body → ns ≡ v.items → Read h.table.images body (get_or ns 0 nothing)
   read_key {v} told n =
       record {
         numbers = v.items;
@@ -97,6 +97,7 @@ pub record Passing (file : List ℕ) (c : Contents) (ps : List Number) (rest : L
   pub settled : length given + length left ≡ length ps
   pub few : compared ≤ length given + r
   pub within : r + length rest ≤ length file
+  pub counted : r + count ≡ record_count held.table file
 
 -- at the first body
 pub passing_starts : {file : List ℕ} {c : Contents} (h : FileHeld file c) (ps : List Number) → Passing file c ps (drop c.size file) ps [] 0 0 None false
@@ -117,34 +118,40 @@ passing_starts {file} {c} h ps =
       settled = omega arith;
       few = omega arith;
       within = omega (arith, length-drop c.size file);
+      counted = omega arith;
     }
 
 module _ {file : List ℕ} {c : Contents} {ps : List Number} {rest : List ℕ} {left : List Number} {given : List ℕ} {compared r : ℕ}
     {last : Option Number} {falls : Bool} (p : Passing file c ps rest left given compared r last falls) where
   -- at the end
-  pub passing_ends : length rest ≡ 0 → keys_read file ≡ done p.keys
+  pub passing_ends : length rest < c.body → keys_read file ≡ done p.keys
   unfolding keys_of bodies ◌then◌
   passing_ends l =
       keys_same file p.held.reads
       ∙ p.reads
-      ∙ ap (λ (n : ℕ). keys_of p.held.table.images (bodies n c.body rest) then λ ks. done (p.keys ++ ks)) (bodies_over c.body rest p.count p.held.some p.fills l)
+      ∙ ap (λ (n : ℕ). keys_of p.held.table.images (bodies n c.body rest) then λ ks. done (p.keys ++ ks)) (bodies_over c.body rest p.count p.fills l)
       ∙ ap {B = Answer (List Number)} done (append-nil p.keys)
 
-  module _ (l : 0 < length rest) where
-    -- a body is left
-    pub passing_ahead : Ahead c.body rest p.count
-    passing_ahead = bodies_ahead c.body rest p.count p.fills l
+  -- there are as many bodies as it has read
+  pub passing_counts : length rest < c.body → (length file - c.size) / c.body ≡ r
+  unfolding record_count
+  passing_counts l =
+      ap₂ (λ (s n : ℕ). (length file - s) / n) p.held.size p.held.body ∙ sym p.counted ∙ omega (arith, bodies_over c.body rest p.count p.fills l)
 
-    abbrev body : List ℕ
-    body = take c.body rest
+  -- a body is taken off the front
+  module _ (body behind : List ℕ) (split : rest ≡ body ++ behind) (size : length body ≡ c.body) where
+    passing_ahead : Ahead c.body p.count body behind
+    passing_ahead = bodies_ahead c.body p.count body behind p.held.some (ap length (sym split) ∙ p.fills) size
 
-    abbrev behind : List (List ℕ)
-    behind = bodies passing_ahead.others c.body (drop c.body rest)
+    abbrev others : List (List ℕ)
+    others = bodies passing_ahead.others c.body behind
 
     -- what it and the others say
-    passing_rest : keys_in p.held.table file ≡ (keys_of p.held.table.images (body ∷ behind) then λ ks. done (p.keys ++ ks))
-    unfolding bodies
-    passing_rest = p.reads ∙ ap (λ (n : ℕ). keys_of p.held.table.images (bodies n c.body rest) then λ ks. done (p.keys ++ ks)) passing_ahead.more
+    passing_rest : keys_in p.held.table file ≡ (keys_of p.held.table.images (body ∷ others) then λ ks. done (p.keys ++ ks))
+    passing_rest =
+        p.reads
+        ∙ ap (λ (bytes : List ℕ). keys_of p.held.table.images (bodies p.count c.body bytes) then λ ks. done (p.keys ++ ks)) split
+        ∙ ap (λ (bs : List (List ℕ)). keys_of p.held.table.images bs then λ ks. done (p.keys ++ ks)) passing_ahead.splits
 
     -- it is refused
     pub passing_stops : {x y : ℕ} → unpack_body p.held.table.images body ≡ refused x y → keys_read file ≡ refused x y
@@ -152,7 +159,7 @@ module _ {file : List ℕ} {c : Contents} {ps : List Number} {rest : List ℕ} {
     passing_stops h =
         keys_same file p.held.reads
         ∙ passing_rest
-        ∙ ap (λ (a : Answer (List Number)). a then λ ks. done (p.keys ++ ks)) (keys_refused p.held.table.images body behind h)
+        ∙ ap (λ (a : Answer (List Number)). a then λ ks. done (p.keys ++ ks)) (keys_refused p.held.table.images body others h)
 
     module _ {number : Number} (d : Read p.held.table.images body number) where
       -- its key is in normal form
@@ -161,28 +168,28 @@ module _ {file : List ℕ} {c : Contents} {ps : List Number} {rest : List ℕ} {
 
       -- and it is read
       pub passing_turns :
-          {behind_now : List ℕ} {left_now : List Number} {given_now : List ℕ} {compared_now : ℕ} {falls_now : Bool}
-          → behind_now ≡ drop c.body rest
+          {left_now : List Number} {given_now : List ℕ} {compared_now : ℕ} {falls_now : Bool}
           → falls_now ≡ (falls || is_fallen last number)
           → (check_numbers 0 ps ≡ done tt → Walking ps (p.keys ++ number ∷ []) [] left_now (r + 1) compared_now given_now)
           → length given_now + length left_now ≡ length ps
           → compared_now ≤ length given_now + (r + 1)
-          → Passing file c ps behind_now left_now given_now compared_now (r + 1) (Some number) falls_now
-      passing_turns e f w settled few =
+          → Passing file c ps behind left_now given_now compared_now (r + 1) (Some number) falls_now
+      passing_turns f w settled few =
           let a = passing_ahead in
           record {
             held = p.held;
             keys = p.keys ++ number ∷ [];
             count = a.others;
-            fills = ap length e ∙ a.behind;
+            fills = a.reaches;
             reads =
                 passing_rest
-                ∙ ap (λ (a : Answer (List Number)). a then λ ks. done (p.keys ++ ks)) (keys_next p.held.table.images body behind d.reads)
-                ∙ then_joined (keys_of p.held.table.images behind) (get_or d.numbers 0 zero_number) p.keys
-                ∙ (λ i. keys_of p.held.table.images (bodies a.others c.body (sym e i)) then λ ks. done ((p.keys ++ sym d.key i ∷ []) ++ ks));
+                ∙ ap (λ (a : Answer (List Number)). a then λ ks. done (p.keys ++ ks)) (keys_next p.held.table.images body others d.reads)
+                ∙ then_joined (keys_of p.held.table.images others) (get_or d.numbers 0 zero_number) p.keys
+                ∙ (λ i. keys_of p.held.table.images others then λ ks. done ((p.keys ++ sym d.key i ∷ []) ++ ks));
             fallen = fallen_turns p.fallen key_normal f;
             walks = w;
             settled = settled;
             few = few;
-            within = omega (arith, ap length e, length-drop c.body rest, p.within, p.held.some, a.inside);
+            within = omega (arith, p.fills, p.within, p.held.some, a.inside);
+            counted = omega (arith, p.counted, a.one);
           }

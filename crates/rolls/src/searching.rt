@@ -41,6 +41,8 @@ pub(crate) struct Walked {
 }
 
 // Whether all positions are in normal form: refused with 3 and the index of the first that is not.
+// A loop of its own, as each list that is checked has: one function for all would take the check as a closure, and be no shorter to call.
+#[tactic(auto, using(crate::proofs::PageLaws::numbers_turn, crate::proofs::PageLaws::numbers_refused), unfolding(crate::specs::Searching::check_numbers))]
 fn check_normal(positions: &[Number]) -> Result<(), Refusal>
     ensures { meaning result ≡ check_numbers 0 positions.now }
 {
@@ -66,6 +68,7 @@ fn is_unsigned_fixed(image: Image) -> bool
 }
 
 // Whether a page can be looked for in records that can be read: refused with 3 and the position's index, then with 16, 14, 15.
+#[tactic(auto, using(crate::proofs::PageLaws::page_abnormal, crate::proofs::PageLaws::page_kind, crate::proofs::PageLaws::page_positions, crate::proofs::PageLaws::page_records, crate::proofs::PageLaws::page_fine))]
 fn check_page(images: &[Image], positions: &[Number], falls: bool) -> Result<(), Refusal>
     requires { 0 < length images.now }
     ensures { meaning result ≡ check_page images.now positions.now falls }
@@ -104,28 +107,25 @@ fn walk(file: &[u8], table: &Contents, positions: &[Number]) -> Result<Walked, R
     let mut comparisons = 0;
     let mut falls = false;
     let mut last = None;
-    let mut record = 0;
     let mut left = positions;
-    let mut bodies = &file[table.size..];
-    while !bodies.is_empty() {
-        let (body, others) = bodies.split_at(table.body);
+    for (record, body) in file[table.size..].chunks_exact(table.body).enumerate() {
         let numbers = unpack_under(&table.images, body)?;
         let number = numbers[0];
         falls |= is_fallen(last, number);
-        'settle: while let Some((position, behind)) = left.split_first() {
+        while let Some((position, behind)) = left.split_first() {
             comparisons += 1;
             if !is_at_most(*position, number) {
-                break 'settle;
+                break;
             }
             records.push(record);
             left = behind;
         }
         last = Some(number);
-        record += 1;
-        bodies = others;
     }
+    let count = (file.len() - table.size) / table.body;
+    // By a loop, since extend of ArrayVec answers with a Result, and there is room for all.
     for _ in left {
-        records.push(record);
+        records.push(count);
     }
     Ok(Walked {
         found: Found {
@@ -139,6 +139,7 @@ fn walk(file: &[u8], table: &Contents, positions: &[Number]) -> Result<Walked, R
 // For each of a page's positions the first record of a file whose first column is at least the position, or the record count.
 // Refused as the file is, with 10 for the count of positions, with 7 and the column within the first bad record, with 3 and the
 // position's index, with 16 where the first column is signed or exponential, with 14 where positions fall, with 15 where records fall.
+#[tactic(auto, using(crate::proofs::SearchLaws::search_file, crate::proofs::SearchLaws::search_many, crate::proofs::SearchLaws::walked_bad, crate::proofs::SearchLaws::walked_page, crate::proofs::SearchLaws::walked_done), unfolding(decimal::specs::Answer::mapped))]
 pub fn find(file: &[u8], positions: &[Number]) -> Result<Found, Refusal>
     ensures { mapped search_of (meaning result) ≡ searching file.now positions.now }
 {

@@ -1,88 +1,66 @@
-// Rows of images, packed sizes and bodies. Each takes a contents with one column.
+// Rows of images, packed sizes and bodies. Each takes a contents with one column, its count and length too, as the bytes that the codec
+// takes, so that this program makes none.
+use crate::scaled::Scaled;
 use crate::shown::{
-    ROOM, print_count, print_hexadecimal, print_number, print_raw, print_refusal, print_remainder,
-    print_signed, print_text,
+    ROOM, print_answer, print_hexadecimal, print_number, print_remainder, print_text,
 };
-use codec::written_part;
+use codec::{Numbers, written_part};
 use decimal::{Number, Remainder};
 use std::io;
 use std::io::Write;
 
-// The image of a contents with one column.
+// The image of a contents with one column: what stands behind the count of columns and the length of the image.
 fn image_of(contents: &[u8]) -> &[u8] {
-    contents.get(2..).unwrap_or(&[])
-}
-
-// Writes the image of a contents with one column.
-fn print_image(out: &mut impl Write, contents: &[u8]) -> io::Result<()> {
-    print_raw(out, image_of(contents))
-}
-
-// Writes the alpha text of a number under an image.
-fn print_alpha(out: &mut impl Write, image: &[u8], number: Number) -> io::Result<()> {
-    let mut buffer = [0u8; ROOM];
-    let answer = codec::write_alpha(image, number, &mut buffer);
-    match answer {
-        Err(refusal) => print_refusal(out, refusal),
-        Ok(_) => print_text(out, written_part(answer, &buffer)),
+    match contents {
+        [_, _, image @ ..] => image,
+        _ => &[],
     }
 }
 
-// Packs a number under a contents, and writes the body.
+// Writes the alpha text of a number under an image.
+fn print_alpha<W: Write>(out: &mut W, image: &[u8], number: Number) -> io::Result<()> {
+    let mut buffer = [0u8; ROOM];
+    let answer = codec::write_alpha(image, number, &mut buffer);
+    print_answer(out, answer, |out, _| {
+        print_text(out, written_part(answer, &buffer))
+    })
+}
+
+// Packs a number under a contents, and writes the body. No print_answer, since a blank stands before a refusal too.
 fn print_packed(out: &mut impl Write, contents: &[u8], number: Number) -> io::Result<()> {
     let mut buffer = [0u8; ROOM];
     let answer = codec::pack(contents, &[number], &mut buffer);
     match answer {
-        Err(refusal) => {
-            print_raw(out, b" ")?;
-            print_refusal(out, refusal)
-        }
+        Err(refusal) => write!(out, " {refusal}"),
         Ok(_) => print_hexadecimal(out, written_part(answer, &buffer)),
     }
 }
 
-// Writes a row: an image, the number whole * 10^up / 10^down, and what is printed of that number, or the refusal.
+// Writes a row: an image, a number, and what is printed of that number, or the refusal.
 fn scaled_row<W: Write, F: Fn(&mut W, Number) -> io::Result<()>>(
     out: &mut W,
     contents: &[u8],
-    negative: bool,
-    whole: u64,
-    up: u16,
-    down: u16,
+    scaled: Scaled,
     print: F,
 ) -> io::Result<()>
     requires { F.IsAlwaysCallable print }
 {
-    print_image(out, contents)?;
-    print_raw(out, b" ")?;
-    print_signed(out, negative, whole)?;
-    print_raw(out, b"E")?;
-    print_signed(out, up < down, up.abs_diff(down) as u64)?;
-    print_raw(out, b": ")?;
-    match Number::from_scaled(negative, whole, up, down, 0) {
-        Err(refusal) => print_refusal(out, refusal)?,
-        Ok(number) => print(out, number)?,
-    }
-    print_raw(out, b"\n")
+    out.write_all(image_of(contents))?;
+    write!(out, " {scaled}: ")?;
+    print_answer(out, scaled.number(), print)?;
+    out.write_all(b"\n")
 }
 
 // Writes the alpha text of a number under the image of a contents, and its body, or the refusals.
 fn print_both(out: &mut impl Write, contents: &[u8], number: Number) -> io::Result<()> {
     print_alpha(out, image_of(contents), number)?;
-    print_raw(out, b"; body")?;
+    out.write_all(b"; body")?;
     print_packed(out, contents, number)
 }
 
-// Writes a row: an image, the number whole * 10^up / 10^down, its alpha text and its body, or the refusals.
-pub(crate) fn image_row<W: Write>(
-    out: &mut W,
-    contents: &[u8],
-    negative: bool,
-    whole: u64,
-    up: u16,
-    down: u16,
-) -> io::Result<()> {
-    scaled_row(out, contents, negative, whole, up, down, |out, number| {
+// Writes a row: an image, a number, its alpha text and its body, or the refusals.
+pub(crate) fn image_row<W: Write>(out: &mut W, contents: &[u8], scaled: Scaled) -> io::Result<()> {
+    scaled_row(out, contents, scaled, |out, number| {
         print_both(out, contents, number)
     })
 }
@@ -91,68 +69,56 @@ pub(crate) fn image_row<W: Write>(
 fn print_remainders(out: &mut impl Write, remainders: &[Remainder]) -> io::Result<()> {
     match remainders {
         [remainder, ..] => print_remainder(out, *remainder),
-        [] => print_raw(out, b"none"),
+        [] => out.write_all(b"none"),
     }
 }
 
-// Packs a number under a contents, and writes the body and what is cut off, or the refusal.
+// Packs a number under a contents, and writes the body and what is cut off, or the refusal. No print_answer, since text stands behind a
+// refusal too.
 fn print_cut(out: &mut impl Write, contents: &[u8], number: Number) -> io::Result<()> {
     let mut buffer = [0u8; ROOM];
     match codec::pack_with_remainders(contents, &[number], &mut buffer) {
-        Err(refusal) => {
-            print_refusal(out, refusal)?;
-            print_raw(out, b"; cut off none")
-        }
+        Err(refusal) => write!(out, "{refusal}; cut off none"),
         Ok(packed) => {
-            print_raw(out, b"body")?;
+            out.write_all(b"body")?;
             print_hexadecimal(out, written_part(Ok(packed.size), &buffer))?;
-            print_raw(out, b"; cut off ")?;
+            out.write_all(b"; cut off ")?;
             print_remainders(out, &packed.remainders)
         }
     }
 }
 
-// Writes a row: an image, the number whole * 10^up / 10^down, its body and what is cut off, or the refusal.
-pub(crate) fn cut_row<W: Write>(
-    out: &mut W,
-    contents: &[u8],
-    negative: bool,
-    whole: u64,
-    up: u16,
-    down: u16,
-) -> io::Result<()> {
-    scaled_row(out, contents, negative, whole, up, down, |out, number| {
+// Writes a row: an image, a number, its body and what is cut off, or the refusal.
+pub(crate) fn cut_row<W: Write>(out: &mut W, contents: &[u8], scaled: Scaled) -> io::Result<()> {
+    scaled_row(out, contents, scaled, |out, number| {
         print_cut(out, contents, number)
     })
 }
 
 // Writes a row: an image and the size of its column, or the refusal.
-pub(crate) fn size_row(out: &mut impl Write, contents: &[u8]) -> io::Result<()> {
-    print_image(out, contents)?;
-    print_raw(out, b": ")?;
-    match codec::read_alone(contents) {
-        Err(refusal) => print_refusal(out, refusal)?,
-        Ok(table) => {
-            print_count(out, table.body)?;
-            print_raw(out, b" bytes")?;
-        }
+pub(crate) fn size_row<W: Write>(out: &mut W, contents: &[u8]) -> io::Result<()> {
+    out.write_all(image_of(contents))?;
+    out.write_all(b": ")?;
+    print_answer(out, codec::read_alone(contents), |out, table| {
+        write!(out, "{} bytes", table.body)
+    })?;
+    out.write_all(b"\n")
+}
+
+// Writes the numbers of a body.
+fn print_numbers(out: &mut impl Write, numbers: Numbers) -> io::Result<()> {
+    for number in numbers.as_slice() {
+        print_number(out, *number)?;
     }
-    print_raw(out, b"\n")
+    Ok(())
 }
 
 // Writes a row: an image, a body, and the number that it reads as, or the refusal.
 pub(crate) fn body_row(out: &mut impl Write, contents: &[u8], body: &[u8]) -> io::Result<()> {
-    print_image(out, contents)?;
-    print_raw(out, b" body")?;
+    out.write_all(image_of(contents))?;
+    out.write_all(b" body")?;
     print_hexadecimal(out, body)?;
-    print_raw(out, b": ")?;
-    match codec::unpack(contents, body) {
-        Err(refusal) => print_refusal(out, refusal)?,
-        Ok(numbers) => {
-            for number in numbers.as_slice() {
-                print_number(out, *number)?;
-            }
-        }
-    }
-    print_raw(out, b"\n")
+    out.write_all(b": ")?;
+    print_answer(out, codec::unpack(contents, body), print_numbers)?;
+    out.write_all(b"\n")
 }

@@ -1,18 +1,21 @@
 // Prints the rows of document 01's Known values, of document 02's examples, and the worked examples of the manuals: source 000
-// (Wang 2200 A/B), and sources 001 (Wang 3300) and 004 (Wang 2200VS) where their rules are document 01's. Beside a row stands its page and, where the manual prints
-// something else, the misprint or the difference of dialect. The up arrow of the manuals is the byte 5E, in rows ^.
+// (Wang 2200 A/B), and sources 001 (Wang 3300) and 004 (Wang 2200VS) where their rules are document 01's. Beside a row stands its page
+// and, where the manual prints something else, the misprint or the difference of dialect. The up arrow of the manuals is the byte 5E, in
+// rows ^.
 // A value that a manual does not state is taken from what it prints. What a row has, the functions image_row and so on say.
 #![tactic(auto)]
 
 mod columns;
 mod lines;
 mod pages;
+mod scaled;
 mod shown;
 mod texts;
 
 use crate::columns::{body_row, cut_row, image_row, size_row};
 use crate::lines::{fields_row, line_row};
 use crate::pages::page_row;
+use crate::scaled::{minus, plus};
 use crate::texts::{long_row, read_row, text_row};
 use std::io;
 use std::io::Write;
@@ -21,37 +24,37 @@ use std::io::Write;
 fn known_images(out: &mut impl Write) -> io::Result<()> {
     // 000, CONVERT, four examples. For the first and the fourth, 004 writes the images 000 and 0000.#####: in its dialect a 0 keeps a
     // leading zero and a # does not.
-    image_row(out, b"\x01\x03###", false, 12195, 0, 3)?;
-    image_row(out, b"\x01\x06+##.##", false, 2439, 0, 2)?;
+    image_row(out, b"\x01\x03###", plus(12195, 0, 3))?;
+    image_row(out, b"\x01\x06+##.##", plus(2439, 0, 2))?;
     // Misprint of 000: ' 1.2E+01', 8 bytes under an image of 9. It is what -#.#^^^^ gives, which 004 has.
-    image_row(out, b"\x01\x09-#.##^^^^", false, 12195, 0, 3)?;
+    image_row(out, b"\x01\x09-#.##^^^^", plus(12195, 0, 3))?;
     // Misprint of 000: '0012.195000', six digits under five #. 004 has '0012.19500'.
-    image_row(out, b"\x01\x0a####.#####", false, 12195, 0, 3)?;
-    image_row(out, b"\x01\x02+#", true, 3, 0, 1)?;
-    image_row(out, b"\x01\x02##", false, 9999, 0, 2)?;
-    image_row(out, b"\x01\x02##", false, 1, 2, 0)?;
-    image_row(out, b"\x01\x08+#.#^^^^", false, 5, 0, 2)?;
+    image_row(out, b"\x01\x0a####.#####", plus(12195, 0, 3))?;
+    image_row(out, b"\x01\x02+#", minus(3, 0, 1))?;
+    image_row(out, b"\x01\x02##", plus(9999, 0, 2))?;
+    image_row(out, b"\x01\x02##", plus(1, 2, 0))?;
+    image_row(out, b"\x01\x08+#.#^^^^", plus(5, 0, 2))?;
     // Difference from 000, PACK: it would pack this, the exponent's sign taken to be plus.
-    image_row(out, b"\x01\x07#.#^^^^", false, 5, 0, 2)?;
-    image_row(out, b"\x01\x02##", true, 12, 0, 0)?;
-    image_row(out, b"\x01\x03.##", false, 5, 0, 1)?;
-    image_row(out, b"\x01\x03.##", false, 1, 0, 0)?;
-    image_row(out, b"\x01\x06##^^^^", false, 1, 0, 99)?;
-    image_row(out, b"\x01\x0e##############", false, 1, 0, 0)?;
-    image_row(out, b"\x01\x02#.", false, 1, 0, 0)
+    image_row(out, b"\x01\x07#.#^^^^", plus(5, 0, 2))?;
+    image_row(out, b"\x01\x02##", minus(12, 0, 0))?;
+    image_row(out, b"\x01\x03.##", plus(5, 0, 1))?;
+    image_row(out, b"\x01\x03.##", plus(1, 0, 0))?;
+    image_row(out, b"\x01\x06##^^^^", plus(1, 0, 99))?;
+    image_row(out, b"\x01\x0e##############", plus(1, 0, 0))?;
+    image_row(out, b"\x01\x02#.", plus(1, 0, 0))
 }
 
 // The manuals' other examples of a number under an image.
 fn manual_images(out: &mut impl Write) -> io::Result<()> {
     // 000, error 56: 1234 exceeds ##; its correction.
-    image_row(out, b"\x01\x02##", false, 1234, 0, 0)?;
-    image_row(out, b"\x01\x04####", false, 1234, 0, 0)?;
+    image_row(out, b"\x01\x02##", plus(1234, 0, 0))?;
+    image_row(out, b"\x01\x04####", plus(1234, 0, 0))?;
     // 004, CONVERT.
-    image_row(out, b"\x01\x08-#.#^^^^", false, 12195, 0, 3)?;
+    image_row(out, b"\x01\x08-#.#^^^^", plus(12195, 0, 3))?;
     // 004, CONVERT. Difference of dialect: it gives '  10', what document 01 prints under this image and does not convert to.
-    image_row(out, b"\x01\x04####", false, 10, 0, 0)?;
+    image_row(out, b"\x01\x04####", plus(10, 0, 0))?;
     // 004, UNPACK.
-    image_row(out, b"\x01\x04####", false, 24, 0, 0)
+    image_row(out, b"\x01\x04####", plus(24, 0, 0))
 }
 
 // Packed sizes. Difference of dialect: 004 leaves the last half of an odd column as it was; in document 01 it becomes zero.
@@ -143,26 +146,26 @@ fn remarks(out: &mut impl Write) -> io::Result<()> {
 // Document 02, (ii): what truncation cuts off.
 fn cut_off(out: &mut impl Write) -> io::Result<()> {
     // All digits dropped, none, and some.
-    cut_row(out, b"\x01\x02##", false, 1, 0, 5)?;
-    cut_row(out, b"\x01\x07###.###", false, 12195, 0, 3)?;
-    cut_row(out, b"\x01\x03###", false, 12195, 0, 3)?;
+    cut_row(out, b"\x01\x02##", plus(1, 0, 5))?;
+    cut_row(out, b"\x01\x07###.###", plus(12195, 0, 3))?;
+    cut_row(out, b"\x01\x03###", plus(12195, 0, 3))?;
     // Exponential with 1 and with 13 digits.
-    cut_row(out, b"\x01\x05#^^^^", false, 12195, 0, 3)?;
-    cut_row(out, b"\x01\x11#############^^^^", false, 12195, 9, 0)?;
+    cut_row(out, b"\x01\x05#^^^^", plus(12195, 0, 3))?;
+    cut_row(out, b"\x01\x11#############^^^^", plus(12195, 9, 0))?;
     // e near -99 and 99.
-    cut_row(out, b"\x01\x02##", false, 1, 0, 99)?;
-    cut_row(out, b"\x01\x06+#^^^^", false, 12195, 0, 103)?;
-    cut_row(out, b"\x01\x05#^^^^", false, 99999, 95, 0)?;
+    cut_row(out, b"\x01\x02##", plus(1, 0, 99))?;
+    cut_row(out, b"\x01\x06+#^^^^", plus(12195, 0, 103))?;
+    cut_row(out, b"\x01\x05#^^^^", plus(99999, 95, 0))?;
     // Cut to zero; the sign plays no part.
-    cut_row(out, b"\x01\x02+#", true, 3, 0, 1)?;
-    cut_row(out, b"\x01\x01#", true, 3, 0, 1)?;
+    cut_row(out, b"\x01\x02+#", minus(3, 0, 1))?;
+    cut_row(out, b"\x01\x01#", minus(3, 0, 1))?;
     // The number zero.
-    cut_row(out, b"\x01\x02##", false, 0, 0, 0)?;
-    cut_row(out, b"\x01\x08+#.#^^^^", false, 0, 0, 0)?;
+    cut_row(out, b"\x01\x02##", plus(0, 0, 0))?;
+    cut_row(out, b"\x01\x08+#.#^^^^", plus(0, 0, 0))?;
     // Refused: the number exceeds, x is negative under an unsigned image, x is outside its limits.
-    cut_row(out, b"\x01\x02##", false, 1, 2, 0)?;
-    cut_row(out, b"\x01\x07#.#^^^^", false, 5, 0, 2)?;
-    cut_row(out, b"\x01\x06##^^^^", false, 1, 0, 99)
+    cut_row(out, b"\x01\x02##", plus(1, 2, 0))?;
+    cut_row(out, b"\x01\x07#.#^^^^", plus(5, 0, 2))?;
+    cut_row(out, b"\x01\x06##^^^^", plus(1, 0, 99))
 }
 
 // Document 02, (iii): positions found in a file.
@@ -200,23 +203,23 @@ fn found(out: &mut impl Write) -> io::Result<()> {
 // Document 02, (iv): mantissas split into digits.
 fn split(out: &mut impl Write) -> io::Result<()> {
     // Nines, sevens and ones; digits that are one multiple of their power.
-    image_row(out, b"\x01\x0d#############", false, 9999999999999, 0, 0)?;
-    image_row(out, b"\x01\x0d#############", false, 7777777777777, 0, 0)?;
-    image_row(out, b"\x01\x0d#############", false, 1111111111111, 0, 0)?;
-    image_row(out, b"\x01\x0d#############", false, 8421842184218, 0, 0)?;
+    image_row(out, b"\x01\x0d#############", plus(9999999999999, 0, 0))?;
+    image_row(out, b"\x01\x0d#############", plus(7777777777777, 0, 0))?;
+    image_row(out, b"\x01\x0d#############", plus(1111111111111, 0, 0))?;
+    image_row(out, b"\x01\x0d#############", plus(8421842184218, 0, 0))?;
     // Nothing left behind the first digit, and zeros inside.
-    image_row(out, b"\x01\x0d#############", false, 8000000000000, 0, 0)?;
-    image_row(out, b"\x01\x0d#############", false, 1000000000000, 0, 0)?;
-    image_row(out, b"\x01\x0d#############", false, 1000000000001, 0, 0)?;
-    image_row(out, b"\x01\x0d#############", false, 9090909090909, 0, 0)?;
+    image_row(out, b"\x01\x0d#############", plus(8000000000000, 0, 0))?;
+    image_row(out, b"\x01\x0d#############", plus(1000000000000, 0, 0))?;
+    image_row(out, b"\x01\x0d#############", plus(1000000000001, 0, 0))?;
+    image_row(out, b"\x01\x0d#############", plus(9090909090909, 0, 0))?;
     // Every digit, rising and falling.
-    image_row(out, b"\x01\x0d#############", false, 1234567890123, 0, 0)?;
-    image_row(out, b"\x01\x0d#############", false, 9876543210987, 0, 0)?;
+    image_row(out, b"\x01\x0d#############", plus(1234567890123, 0, 0))?;
+    image_row(out, b"\x01\x0d#############", plus(9876543210987, 0, 0))?;
     // With a point, with a sign, with digits that are cut off, and exponential.
-    image_row(out, b"\x01\x0e#.############", false, 5678901234567, 0, 12)?;
-    image_row(out, b"\x01\x0f+######.#######", true, 6543210987654, 0, 7)?;
-    image_row(out, b"\x01\x04####", false, 1234567890123, 0, 9)?;
-    image_row(out, b"\x01\x0d#########^^^^", false, 3456789012345, 0, 4)
+    image_row(out, b"\x01\x0e#.############", plus(5678901234567, 0, 12))?;
+    image_row(out, b"\x01\x0f+######.#######", minus(6543210987654, 0, 7))?;
+    image_row(out, b"\x01\x04####", plus(1234567890123, 0, 9))?;
+    image_row(out, b"\x01\x0d#########^^^^", plus(3456789012345, 0, 4))
 }
 
 // Known values printed, both marked *.
@@ -354,12 +357,7 @@ fn print_rows(out: &mut impl Write) -> io::Result<()> {
     fields(out)
 }
 
-// Writes all rows to standard output.
-fn run(rt: &impl Print) -> io::Result<()> {
-    print_rows(&mut io::writer(rt))
-}
-
-// All rows, and what failed to be written.
+// Writes all rows to standard output; a failure is told.
 fn main(rt: HostRuntime) {
-    console::is_written(&rt, run(&rt));
+    let _ = console::told(&rt, print_rows(&mut io::writer(&rt)));
 }

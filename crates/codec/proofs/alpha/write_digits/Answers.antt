@@ -2,20 +2,12 @@
 use Prim.Native.Nat.{ℕ, ◌+◌, ◌-◌, ◌*◌, ◌/◌, ◌^◌}
 use mathlib.Core.Path.{ap, sym, ◌∙◌}
 use native.Mathlib.Omega.{arith}
-use lib.Bits.{and_mask, mask_lt}
+use lib.Bits.{and_mask}
 use lib.ListN.{length}
 use Rattle.codec.specs.Alpha.{zero_byte}
 use Rattle.codec.proofs.BufferLaws.{front_more, front_all}
 use Rattle.codec.proofs.AlphaLaws.{half_bytes_length, half_byte_at}
 use Rattle.codec.proofs.alpha.write_digits.Goals as goal
-
-pub overflow_cast-byte : goal.overflow_cast-byte
-overflow_cast-byte c =
-    omega (arith, mask_lt (c.args.run / 2 ^ (4 * (length c.args.target.now - 1 - c.loop-k.k))) 4)
-
-pub overflow_add-byte : goal.overflow_add-byte
-overflow_add-byte c =
-    omega (arith, mask_lt (c.args.run / 2 ^ (4 * (length c.args.target.now - 1 - c.loop-k.k))) 4)
 
 pub loop-k-preserved : goal.loop-k-preserved
 loop-k-preserved c =

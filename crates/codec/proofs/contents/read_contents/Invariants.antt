@@ -4,4 +4,4 @@ use Rattle.codec.proofs.ContentsLaws.{Reading}
 use Rattle.codec.proofs.contents.read_contents.Given as goal
 
 abbrev pub invariant-loop-column : goal.invariant-loop-column
-invariant-loop-column l = Reading l.columns l.count l.images.items l.at l.body l.column
+invariant-loop-column l = Reading l.initial.rest l.count l.images.items l.body l.rest l.column

@@ -1,52 +1,42 @@
 -- `write_columns` meets its contract: each column is written behind those before it. Assumes nothing.
-use Rattle.std.proofs.Common.{◌+◌, ◌≤◌, length, sym, refl, ◌∙◌, arith}
+use Rattle.std.proofs.Common.{ap, ◌∙◌, ⊎_elim, inl, inr, arith}
 use Rattle.std.proofs.lemmas.List.{length-take-le, length-drop}
-use Rattle.codec.specs.Columns.{body_size}
-use Rattle.codec.specs.Lists.{no_image}
-use Rattle.codec.proofs.BufferLaws.{written_none}
-use Rattle.codec.proofs.BodyLaws.{bytes_of, room_at, fits_at, columns_written, columns_all, columns_place}
-use Rattle.codec.proofs.PackLaws.{packs_length}
+use Rattle.decimal.specs.Answer.{done}
+use Rattle.codec.proofs.BodyLaws.{packs_columns, writing_starts, next_fits, next_room, writing_turns, writing_ends}
 use Rattle.codec.proofs.packing.write_columns.Goals as goal
 
-pub loop-column-init : goal.loop-column-init
-unfolding bytes_of body_size
-loop-column-init c = (refl, sym (written_none c.args.body.now))
-
--- each column is inside the body
-inside : (c : goal.After-column_size) → c.loop-column.at + c.column_size.result ≤ length c.args.body.now
-inside c =
-    omega (
-      arith,
-      room_at c.args.images.now c.loop-column.column no_image c.loop-column-test.true,
-      c.requires.1,
-      c.loop-column.invariant.0,
-      c.column_size.ensures,
-    )
+pub loop-image-init : goal.loop-image-init
+loop-image-init c =
+    let images = c.iter.ensures.rest in
+    let first = c.zip-image-items.ensures.first in
+    let second = c.zip-image-items.ensures.second in
+    let same = c.into_iter-image-iterator.ensures.into_iter_gives in
+    writing_starts c.requires.0 c.requires.1 (cc) (cc)
 
 pub overflow_add-end : goal.overflow_add-end
-overflow_add-end c = omega (arith, inside c)
+overflow_add-end c =
+    let step = c.in-Some.ensures.steps in
+    omega (arith, next_room c.loop-image.invariant step.0 step.1, c.column_size.ensures)
 
 pub slice_bounds-write_column-end : goal.slice_bounds-write_column-end
-slice_bounds-write_column-end c = omega (arith, room_at c.args.images.now c.loop-column.column no_image c.loop-column-test.true, c.requires.1, c.loop-column.invariant.0, c.column_size.ensures)
-
-pub offset_bounds-numbers-column : goal.offset_bounds-numbers-column
-offset_bounds-numbers-column c = omega (arith, packs_length c.requires.0, c.loop-column-test.true)
-
-pub bounds-numbers-column : goal.bounds-numbers-column
-bounds-numbers-column c = omega (arith, packs_length c.requires.0, c.loop-column-test.true)
+slice_bounds-write_column-end c =
+    let step = c.in-Some.ensures.steps in
+    omega (arith, next_room c.loop-image.invariant step.0 step.1, c.column_size.ensures)
 
 pub write_column-requires : goal.write_column-requires
-write_column-requires c = (
-  fits_at c.loop-column.column _ _ c.loop-column-test.true c.requires.0,
-  length-take-le _ _ (omega (arith, room_at c.args.images.now c.loop-column.column no_image c.loop-column-test.true, c.requires.1, c.loop-column.invariant.0, c.column_size.ensures, length-drop c.loop-column.at c.loop-column.body))
-      ∙ omega (arith, c.column_size.ensures),
-)
+write_column-requires c =
+    let step = c.in-Some.ensures.steps in
+    let room = next_room c.loop-image.invariant step.0 step.1 in (
+      next_fits c.loop-image.invariant step.0 step.1,
+      length-take-le _ _ (omega (arith, room, c.column_size.ensures, length-drop c.loop-image.at c.loop-image.body)) ∙ omega (arith, c.column_size.ensures),
+    )
 
-pub loop-column-preserved : goal.loop-column-preserved
-loop-column-preserved c = (
-  columns_place c.args.images.now c.loop-column.column no_image c.loop-column-test.true c.loop-column.invariant.0 c.column_size.ensures,
-  columns_written c.args.images.now c.args.numbers.now c.loop-column.column _ _ c.loop-column-test.true c.args.body.now c.requires.0 c.requires.1 c.loop-column.invariant.0 c.column_size.ensures c.loop-column.invariant.1 c.write_column.ensures,
-)
+pub loop-image-preserved : goal.loop-image-preserved
+loop-image-preserved c =
+    let step = c.in-Some.ensures.steps in
+    writing_turns c.loop-image.invariant step.0 step.1 c.column_size.ensures c.write_column.ensures
 
 pub returns : goal.returns
-returns c = columns_all c.loop-column.column c.args.body.now c.requires.0 c.requires.1 c.loop-column-test.false c.loop-column.invariant.1
+returns c =
+    let written = writing_ends c.loop-image.invariant (⊎_elim (λ none. inl none.1.0) (λ none. inr none.1.0) c.in-None.ensures.steps) in
+    packs_columns 0 c.requires.0 ∙ ap done written

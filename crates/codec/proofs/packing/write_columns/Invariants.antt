@@ -1,11 +1,10 @@
--- `write_columns` meets its contract. The loop's invariant: the columns so far are written, and the place is behind them. Assumes nothing.
-use Rattle.std.specs.Prelude.{◌≡◌, take}
-use Rattle.codec.specs.Answers.{written}
-use Rattle.codec.specs.Columns.{body_size}
-use Rattle.codec.proofs.BodyLaws.{bytes_of}
+-- `write_columns` meets its contract. The loop's invariant is `Writing`: what is written and the columns that are left make the whole.
+-- Assumes nothing.
+use Rattle.std.specs.Iterator.Adapters.{zip_first, zip_second}
+use Rattle.std.specs.Slice.Iter.{iter_rest}
+use Rattle.codec.proofs.BodyLaws.{bytes_of, Writing}
 use Rattle.codec.proofs.packing.write_columns.Given as goal
 
-abbrev pub invariant-loop-column : goal.invariant-loop-column
-invariant-loop-column l =
-    (l.at ≡ body_size (take l.column l.images))
-    × (l.body ≡ written l.initial.body 0 (bytes_of (take l.column l.images) (take l.column l.numbers)))
+abbrev pub invariant-loop-image : goal.invariant-loop-image
+invariant-loop-image l =
+    Writing (bytes_of l.images l.numbers) (iter_rest (zip_first l.image-iterator)) (iter_rest (zip_second l.image-iterator)) l.at l.body

@@ -1,34 +1,36 @@
 -- `cut_off` meets its contract: a number that can be packed has a remainder. Assumes nothing.
-use Rattle.std.proofs.Common.{ap, sym, ◌∙◌, arith, rules}
-use Rattle.decimal.specs.Answer.{meaning}
+use Rattle.std.proofs.Common.{length, ap, sym, ◌∙◌, ⊎_elim, inl, inr, arith}
+use Rattle.decimal.specs.Answer.{done, meaning}
 use Rattle.decimal.proofs.AnswerLaws.{done_ok}
 use Rattle.codec.proofs.PackLaws.{packs_length}
-use Rattle.codec.proofs.RemainderLaws.{left_of, left_at, left_more, left_all}
+use Rattle.codec.proofs.RemainderLaws.{packs_left, left_length, leaving_starts, left_next, leaving_turns, leaving_ends}
 use Rattle.codec.proofs.remainders.cut_off.Goals as goal
 
-pub loop-column-init : goal.loop-column-init
-unfolding left_of
-loop-column-init c = rw c.new-remainders.ensures (search rules)
-
-pub offset_bounds-numbers-column : goal.offset_bounds-numbers-column
-offset_bounds-numbers-column c = omega (arith, packs_length c.requires.1, c.loop-column-test.true)
-
-pub bounds-numbers-column : goal.bounds-numbers-column
-bounds-numbers-column c = omega (arith, packs_length c.requires.1, c.loop-column-test.true)
+pub loop-image-init : goal.loop-image-init
+loop-image-init c =
+    let images = c.iter.ensures.rest in
+    let first = c.zip-image-items.ensures.first in
+    let second = c.zip-image-items.ensures.second in
+    let same = c.into_iter-image-iterator.ensures.into_iter_gives in
+    rw c.new-remainders.ensures (leaving_starts c.requires.1 (cc) (cc))
 
 pub unwrap-requires : goal.unwrap-requires
-unwrap-requires c = done_ok c.remainder_of.result (c.remainder_of.ensures ∙ left_at c.args.images.now c.args.numbers.now c.requires.1 c.loop-column.column _ _ c.loop-column-test.true)
+unwrap-requires c =
+    let step = c.in-Some.ensures.steps in
+    done_ok c.remainder_of.result (c.remainder_of.ensures ∙ left_next c.loop-image.invariant step.0 step.1)
 
 pub push-requires : goal.push-requires
-push-requires c = (omega arith, omega (arith, c.requires.0, c.loop-column.invariant.0, c.loop-column-test.true))
+push-requires c =
+    let step = c.in-Some.ensures.steps in
+    let many = left_length c.args.images.now c.args.numbers.now (packs_length c.requires.1) in
+    (omega arith, omega (arith, many, c.requires.0, c.loop-image.invariant.room, ap length step.0))
 
-pub loop-column-preserved : goal.loop-column-preserved
-loop-column-preserved c = (
-  omega (arith, c.push.ensures.len, c.loop-column.invariant.0),
-  left_more c.args.images.now c.args.numbers.now c.requires.1 c.loop-column.column _ _ c.loop-column-test.true c.loop-column.invariant.1
-      (sym (ap meaning c.unwrap.ensures) ∙ c.remainder_of.ensures)
-      c.push.ensures.items,
-)
+pub loop-image-preserved : goal.loop-image-preserved
+loop-image-preserved c =
+    let step = c.in-Some.ensures.steps in
+    leaving_turns c.loop-image.invariant step.0 step.1 (sym (ap meaning c.unwrap.ensures) ∙ c.remainder_of.ensures) c.push.ensures.items
 
 pub returns : goal.returns
-returns c = left_all c.loop-column.column c.requires.1 c.loop-column-test.false c.loop-column.invariant.1
+returns c =
+    let found = leaving_ends c.loop-image.invariant (⊎_elim (λ none. inl none.1.0) (λ none. inr none.1.0) c.in-None.ensures.steps) in
+    packs_left 0 c.requires.1 ∙ ap done found

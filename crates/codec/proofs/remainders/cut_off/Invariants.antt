@@ -1,8 +1,10 @@
--- `cut_off` meets its contract. The loop's invariant: the remainders of the columns so far are found. Assumes nothing.
-use Rattle.std.specs.Prelude.{◌≡◌, length, take}
-use Rattle.codec.proofs.RemainderLaws.{left_of}
+-- `cut_off` meets its contract. The loop's invariant is `Leaving`: the remainders that are found and those of the columns that are left make
+-- the whole. Assumes nothing.
+use Rattle.std.specs.Iterator.Adapters.{zip_first, zip_second}
+use Rattle.std.specs.Slice.Iter.{iter_rest}
+use Rattle.codec.proofs.RemainderLaws.{left_of, Leaving}
 use Rattle.codec.proofs.remainders.cut_off.Given as goal
 
-abbrev pub invariant-loop-column : goal.invariant-loop-column
-invariant-loop-column l =
-    (length l.remainders.items ≡ l.column) × (l.remainders.items ≡ left_of (take l.column l.images) (take l.column l.numbers))
+abbrev pub invariant-loop-image : goal.invariant-loop-image
+invariant-loop-image l =
+    Leaving (left_of l.images l.numbers) (iter_rest (zip_first l.image-iterator)) (iter_rest (zip_second l.image-iterator)) l.remainders.items

@@ -4,4 +4,4 @@ use Rattle.codec.proofs.UnpackLaws.{Unpacking}
 use Rattle.codec.proofs.unpacking.unpack_columns.Given as goal
 
 abbrev pub invariant-loop-column : goal.invariant-loop-column
-invariant-loop-column l = Unpacking l.images l.body l.numbers.items l.at l.column
+invariant-loop-column l = Unpacking l.images l.body l.numbers.items l.rest l.column

@@ -3,17 +3,10 @@
 -- The measure is what is left of the text. Assumes nothing.
 use Rattle.std.proofs.Common.{◌+◌, sym, ap, ◌∙◌, arith}
 use Rattle.std.proofs.lemmas.List.{take_rest}
-use Rattle.decimal.proofs.StepLaws.{run_inside}
 use Rattle.codec.specs.Text.{blanks_in, legal_length}
 use Rattle.codec.proofs.TextLaws.{onward, read_used_lem}
-use Rattle.codec.proofs.WalkLaws.{skip_starts, skip_here, skip_past, skip_blank_end, skip_ends}
+use Rattle.codec.proofs.WalkLaws.{skip_here, skip_past, skip_blank_end}
 use Rattle.codec.proofs.walking.next_number_place.Goals as goal
-
-pub loop-place-init : goal.loop-place-init
-loop-place-init c = skip_starts c.args.text.now c.args.from
-
-pub overflow_add-behind : goal.overflow_add-behind
-overflow_add-behind c = omega (arith, run_inside 32 (onward c.loop-place.place c.args.text.now))
 
 pub returns-then-text-behind : goal.returns-then-text-behind
 returns-then-text-behind c =
@@ -35,6 +28,3 @@ loop-place-preserved c =
     let behind = place + c.leading_run.result in
     skip_past text c.args.from place c.loop-place.invariant (c.leading_run.ensures ∙ ap blanks_in (take_rest text place)) (omega arith)
     (sym (read_used_lem (onward behind text) c.read_text-reading.ensures ∙ ap legal_length (take_rest text behind)) ∙ c.if-reading-ne0.false)
-
-pub returns : goal.returns
-returns c = skip_ends c.args.text.now c.args.from c.loop-place.place c.loop-place.invariant (omega arith)

@@ -1,6 +1,6 @@
 -- `decimal::digits::packed_digits` meets its contract. The loop's invariant: the digits so far, and those of the rest behind them, are the
 -- mantissa's digits. Assumes nothing.
-use Rattle.std.proofs.Common.{◌≡◌, ℕ, ◌-◌, ◌^◌, ◌<◌, ◌≤◌, take, drop}
+use Rattle.std.proofs.Common.{◌≡◌, ℕ, ◌-◌, ◌^◌, ◌<◌, take, drop}
 use Rattle.decimal.specs.Digits.{precision, digits_of, packed_of}
 use Rattle.decimal.proofs.digits.packed_digits.Given as goal
 

@@ -1,21 +1,9 @@
 -- `fit` meets its contract: the image's check, the number's and the limits, in document 01's order. Assumes nothing.
 use Rattle.std.proofs.Common.{sym, ap, ◌∙◌}
 use Rattle.decimal.specs.Answer.{checked_only}
-use Rattle.decimal.proofs.AnswerLaws.{passed_on}
-use Rattle.decimal.proofs.TruncationLaws.{truncation_image_refused, truncation_number_refused, truncation_limited}
+use Rattle.decimal.proofs.TruncationLaws.{truncation_limited}
 use Rattle.decimal.proofs.KeptLaws.{fits_on_ok}
 use Rattle.decimal.proofs.truncation.fit.Goals as goal
-
-pub returns-in_err-checked-clause-answer : goal.returns-in_err-checked-clause-answer
-unfolding checked_only
-returns-in_err-checked-clause-answer c =
-    passed_on _ _ c.from_residual.ensures.1 ∙ sym (ap checked_only (truncation_image_refused _ _ _ (sym c.in_err-checked.ensures)))
-
-pub returns-in_err-checked-2-clause-answer : goal.returns-in_err-checked-2-clause-answer
-unfolding checked_only
-returns-in_err-checked-2-clause-answer c =
-    passed_on _ _ c.from_residual-in_err-checked-2.ensures.1
-    ∙ sym (ap checked_only (truncation_number_refused _ _ _ (sym c.in_ok-checked.ensures) (sym c.in_err-checked-2.ensures.answer)))
 
 pub returns : goal.returns
 returns c =

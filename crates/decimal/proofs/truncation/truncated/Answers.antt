@@ -32,9 +32,9 @@ returns-then-kept_count-eq0 c =
     let none : kept_count a.image a.number ≡ 0 = omega (arith, c.kept_count.ensures, c.if-kept_count-eq0.true) in
     sym (stands a.place a.image a.number fit ∙ number_none a.image a.number fit a.place none)
 
-pub returns : goal.returns
+pub returns-else-kept_count-eq0 : goal.returns-else-kept_count-eq0
 unfolding kept_number
-returns c =
+returns-else-kept_count-eq0 c =
     let a = c.args in
     let fit = c.in_ok-fit.ensures.fits in
     let some : 0 < kept_count a.image a.number = omega (arith, c.kept_count.ensures, c.if-kept_count-eq0.false) in

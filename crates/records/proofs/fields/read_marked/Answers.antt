@@ -1,50 +1,36 @@
--- `read_marked` meets its contract. The loop's invariant: the kept bytes and what is kept of the rest of the field are what is kept of
--- the field. Assumes nothing.
-use Prim.Native.Nat.{ℕ, ◌+◌, ◌≤◌}
-use mathlib.Core.Path.{ap, sym, ◌∙◌}
-use mathlib.Core.List.{List, [], ◌++◌, ◌∷◌}
-use native.Mathlib.Omega.{arith}
-use lib.ListN.{length, drop, length-append}
-use lib.Seq.{append_snoc}
-use borrow.Author.Rules.{rules}
+-- `read_marked` meets its contract: more bytes than a text number has are refused, and the others are converted. Assumes nothing.
+use Rattle.std.proofs.Common.{ap, sym, ◌∙◌, rules, tests, length, not, arith}
+use Rattle.std.proofs.lemmas.Iterator.{YieldsList-from_slice, YieldsList-from_map}
+use Rattle.std.proofs.lemmas.Iterator.Adapters.{items_from_extend}
+use Rattle.std.proofs.lemmas.Iterator.Consumers.{YieldsList-from_filter, YieldsList-at}
 use Rattle.codec.specs.Text.{convert_text}
-use Rattle.records.specs.Marks.{without_marks}
+use Rattle.records.specs.Marks.{is_dropped, read_byte}
 use Rattle.records.specs.Fields.{read_marked}
-use Rattle.records.proofs.ReadFieldLaws.{text_room, long_refused, drops_byte, keeps_byte, kept_all}
+use Rattle.records.proofs.ReadFieldLaws.{long_refused, kept_lem, kept_first, more_came, on_result}
 use Rattle.records.proofs.fields.read_marked.Goals as goal
-use Rattle.records.proofs.fields.read_marked.Goals.{then-not-is_dropped+else-is_full, else-not-is_dropped}
 
-pub returns-then-is_full : goal.returns-then-is_full
-returns-then-is_full c =
-    let l = c.loop-byte in
-    let a = c.args in
-    let full : text_room ≤ length l.kept.items = search rules in
-    let kept = keeps_byte a.marks a.field.now l.byte-index (omega arith) (sym c.is_dropped.ensures ∙ c.if-not-is_dropped.true) in
-    sym (long_refused a.marks a.field.now (omega (arith, ap length l.invariant, length-append l.kept.items (without_marks a.marks (drop l.byte-index a.field.now)), ap length kept)))
-
-pub loop-byte-preserved : goal.loop-byte-preserved
-loop-byte-preserved c =
-    let l = c.loop-byte in
-    let a = c.args in
-    let field = a.field.now in
-    let rest = without_marks a.marks (drop (l.byte-index + 1) field) in
-    elim c.if-not-is_dropped.branch [
-      | then-not-is_dropped+else-is_full w ↦
-          l.invariant
-          ∙ ap (λ (s : List ℕ). l.kept.items ++ s) (keeps_byte a.marks field l.byte-index (omega arith) (sym c.is_dropped.ensures ∙ w.if-not-is_dropped.true))
-          ∙ sym (append_snoc l.kept.items _ rest)
-          ∙ ap (λ (b : ℕ). (l.kept.items ++ b ∷ []) ++ rest) (sym w.read_byte.ensures)
-          ∙ ap (λ (s : List ℕ). s ++ rest) (sym w.push.ensures.items)
-          ∙ ap (λ (v : _). v.items ++ rest) (sym w.kept-is)
-      | else-not-is_dropped w ↦
-          l.invariant
-          ∙ ap (λ (s : List ℕ). l.kept.items ++ s) (drops_byte a.marks field l.byte-index (omega arith) (sym c.is_dropped.ensures ∙ w.if-not-is_dropped.false))
-          ∙ ap (λ (v : _). v.items ++ rest) (sym w.kept-is)
-    ]
+pub returns-then-is_err : goal.returns-then-is_err
+returns-then-is_err c =
+    let m = c.args.marks in
+    let more =
+    more_came _ _ c.extend.result c.new-kept.ensures c.if-is_err.ensures.value c.extend.ensures.one_more c.extend.ensures.full
+    (YieldsList-from_map _ (read_byte m)
+    (YieldsList-at c.map-read.ensures.source
+    (YieldsList-from_filter _ (λ b. not (is_dropped m b)) (YieldsList-at c.filter.ensures.source (YieldsList-from_slice c.args.field.now c.iter.ensures.rest))
+    c.filter.ensures.closure (λ x r q k. search (rules, tests))))
+    c.map-read.ensures.closure (λ x r q k. search rules)) in
+    sym (long_refused m c.args.field.now (omega (arith, more, ap length (kept_lem m c.args.field.now))))
 
 pub returns : goal.returns
 unfolding read_marked
 returns c =
-    let l = c.loop-byte in
-    c.convert.ensures
-    ∙ ap convert_text (c.as_slice.ensures.value ∙ kept_all c.args.marks c.args.field.now l.kept.items l.byte-index (omega arith) l.invariant)
+    let m = c.args.marks in
+    let items =
+    on_result c.extend.result c.if-is_err.ensures.value
+    (items_from_extend c.extend.result c.extend.ensures.ran
+    (YieldsList-from_map _ (read_byte m)
+    (YieldsList-at c.map-read.ensures.source
+    (YieldsList-from_filter _ (λ b. not (is_dropped m b)) (YieldsList-at c.filter.ensures.source (YieldsList-from_slice c.args.field.now c.iter.ensures.rest))
+    c.filter.ensures.closure (λ x r q k. search (rules, tests))))
+    c.map-read.ensures.closure (λ x r q k. search rules))) in
+    c.convert.ensures ∙ ap convert_text (c.as_slice.ensures.value ∙ items ∙ kept_first c.new-kept.ensures m c.args.field.now)

@@ -12,10 +12,11 @@ use Rattle.records.specs.Fields.{fill_bytes, nothing_filled}
 use Rattle.records.proofs.FieldLaws.{hash_count_lem, number_refused, number_fixed}
 use Rattle.records.proofs.fields.write_number.Goals as goal
 
-pub write_fixed-requires : goal.write_fixed-requires
-write_fixed-requires c =
-    let found = truncation_found c.args.image c.args.number (sym (ap meaning c.in-Ok.is) ∙ c.truncate.ensures) in
-    (found.is_held, omega (arith, hash_count_lem c.requires.ready.is_field, ap hashes c.requires.read))
+pub invariant_of-shown : goal.invariant_of-shown
+invariant_of-shown c = record { held = (truncation_found c.args.image c.args.number (sym (ap meaning c.in-Ok.is) ∙ c.truncate.ensures)).is_held }
+
+pub write-requires : goal.write-requires
+write-requires c = omega (arith, hash_count_lem c.requires.ready.is_field, ap hashes c.requires.read)
 
 pub returns-in-Ok : goal.returns-in-Ok
 returns-in-Ok c =
@@ -25,7 +26,7 @@ returns-in-Ok c =
     let same = c.requires.read in
     let to = ap (λ (im : Image). truncation 0 im a.number) (sym same) ∙ found.truncated in
     let kind = sym (ap (λ (im : Image). im.exponential) same) ∙ c.if-image.false in
-    c.write_fixed.ensures
+    c.write.ensures
     ∙ (λ i. fill_bytes a.marks (same i) (found.same i) nothing_filled field)
     ∙ sym (number_fixed a.marks field a.number to kind)
 

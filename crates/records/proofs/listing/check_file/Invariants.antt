@@ -1,11 +1,11 @@
--- `check_file` meets its contract. The loop's invariant: whether the bodies that are left can be read says whether all can. The measure is
--- the bytes that are left. Assumes nothing.
-use Rattle.std.specs.Prelude.{length}
+-- `check_file` meets its contract. The loop's invariant: whether the bodies that are left can be read says whether all can. Assumes nothing.
+use Rattle.std.specs.Prelude.{◌≡◌}
+use Rattle.std.specs.Slice.Iter.{chunks_exact_rest, chunks_exact_size}
 use Rattle.records.proofs.LinesLaws.{Checking}
 use Rattle.records.proofs.listing.check_file.Given as goal
 
-abbrev pub invariant-loop-bodies : goal.invariant-loop-bodies
-invariant-loop-bodies l = Checking l.file l.table l.bodies
-
-abbrev pub decreases-loop-bodies : goal.decreases-loop-bodies
-decreases-loop-bodies l = length l.bodies
+abbrev pub invariant-loop-body : goal.invariant-loop-body
+invariant-loop-body l = record {
+  checking : Checking l.file l.table (chunks_exact_rest l.body-iterator);
+  size : chunks_exact_size l.body-iterator ≡ l.table.body;
+}

@@ -3,7 +3,7 @@ use native.Mathlib.Omega.{arith}
 use mathlib.Core.Path.{sym, ◌∙◌}
 use borrow.Author.Tests.{eqb-true, eqb-false}
 use Rattle.records.proofs.MeasureLaws.{measuring_starts, measuring_ends, measuring_line, measuring_element}
-use Rattle.records.proofs.PlaceLaws.{place_small, pass_starts, pass_field, pass_next, pass_over, pass_fewer}
+use Rattle.records.proofs.PlaceLaws.{spills_counted, place_small, pass_starts, pass_field, pass_next, pass_over, pass_fewer}
 use Rattle.records.proofs.printing.measure.Goals as goal
 
 pub lines-init : goal.lines-init
@@ -15,31 +15,32 @@ loop-field-init c = record { measuring = c.lines.invariant; pass = pass_starts _
 pub overflow_sub-bytes : goal.overflow_sub-bytes
 overflow_sub-bytes c =
     let x = pass_field c.requires.1 c.loop-field.invariant.pass c.loop-field-test.true in
-    omega (arith, x.first)
+    omega (arith, x.first, c.from-start.ensures)
 
 pub overflow_add-bytes : goal.overflow_add-bytes
 overflow_add-bytes c =
     let x = pass_field c.requires.1 c.loop-field.invariant.pass c.loop-field-test.true in
-    omega (arith, place_small c.loop-field.invariant.measuring.measures c.requires.0, x.there, c.requires.0.short)
+    omega (arith, place_small c.loop-field.invariant.measuring.measures c.requires.0, x.there, c.requires.0.short, c.from-start.ensures)
 
 pub overflow_add-bytes-in-loop-field : goal.overflow_add-bytes-in-loop-field
 overflow_add-bytes-in-loop-field c =
     let x = pass_field c.requires.1 c.loop-field.invariant.pass c.loop-field-test.true in
-    omega (arith, place_small c.loop-field.invariant.measuring.measures c.requires.0, x.there, x.on.inside, c.requires.0.short)
+    omega (arith, place_small c.loop-field.invariant.measuring.measures c.requires.0, x.there, x.on.inside, c.requires.0.short, c.from-start.ensures, c.from-length.ensures)
 
 pub overflow_add-spilled : goal.overflow_add-spilled
 overflow_add-spilled c =
     let x = pass_field c.requires.1 c.loop-field.invariant.pass c.loop-field-test.true in
-    let next = measuring_element c.loop-field.invariant.measuring c.in-len1-up.len_at_least x c.spill-spilled.ensures in
+    let next = measuring_element c.loop-field.invariant.measuring c.in-len1-up.len_at_least x (λ field read. spills_counted field _ (c.is_spilled.ensures field read) c.from-spilled.ensures) in
     omega (arith, next.spills.few, c.requires.0.few)
 
 pub loop-field-preserved : goal.loop-field-preserved
 loop-field-preserved c =
     let x = pass_field c.requires.1 c.loop-field.invariant.pass c.loop-field-test.true in
-    record {
-      measuring = measuring_element c.loop-field.invariant.measuring c.in-len1-up.len_at_least x c.spill-spilled.ensures;
+    rw (c.from-start.ensures, c.from-length.ensures)
+    (record {
+      measuring = measuring_element c.loop-field.invariant.measuring c.in-len1-up.len_at_least x (λ field read. spills_counted field _ (c.is_spilled.ensures field read) c.from-spilled.ensures);
       pass = pass_next c.requires.1 c.loop-field.invariant.pass c.loop-field-test.true c.in-len1-up.len_at_least;
-    }
+    })
 
 pub overflow_add-bytes-in-lines : goal.overflow_add-bytes-in-lines
 overflow_add-bytes-in-lines c =
@@ -64,7 +65,7 @@ lines-preserved c =
 pub returns-in_default : goal.returns-in_default
 returns-in_default c =
     let x = pass_field c.requires.1 c.loop-field.invariant.pass c.loop-field-test.true in
-    measuring_ends c.loop-field.invariant.measuring x.first (omega (arith, c.in_default.len_below))
+    rw c.from-start.ensures (measuring_ends c.loop-field.invariant.measuring x.first (omega (arith, c.in_default.len_below)))
 
 pub returns-then-is_empty : goal.returns-then-is_empty
 returns-then-is_empty c =

@@ -31,39 +31,39 @@ loop-field-init c =
 pub overflow_sub-front : goal.overflow_sub-front
 overflow_sub-front c =
     let x = pass_field c.requires.1 c.loop-field.invariant.pass c.loop-field-test.true in
-    omega (arith, x.first)
+    omega (arith, x.first, c.from-start.ensures)
 
 pub slice_bounds-copy_from_slice-end : goal.slice_bounds-copy_from_slice-end
 slice_bounds-copy_from_slice-end c =
     let i = c.loop-field.invariant in
     let x = pass_field c.requires.1 i.pass c.loop-field-test.true in
-    omega (arith, literals_room (i.writing _ c.lines.invariant.writing) i.place x.first)
+    omega (arith, literals_room (i.writing _ c.lines.invariant.writing) i.place x.first, c.from-start.ensures)
 
 pub slice_bounds-copy_from_slice-count-in-loop-field : goal.slice_bounds-copy_from_slice-count-in-loop-field
 slice_bounds-copy_from_slice-count-in-loop-field c =
     let x = pass_field c.requires.1 c.loop-field.invariant.pass c.loop-field-test.true in
-    omega (arith, x.first)
+    omega (arith, x.first, c.from-start.ensures)
 
 pub slice_bounds-copy_from_slice-start-in-loop-field : goal.slice_bounds-copy_from_slice-start-in-loop-field
 slice_bounds-copy_from_slice-start-in-loop-field c =
     let x = pass_field c.requires.1 c.loop-field.invariant.pass c.loop-field-test.true in
-    omega (arith, x.first)
+    omega (arith, x.first, c.from-start.ensures)
 
 pub slice_bounds-copy_from_slice-end-in-loop-field : goal.slice_bounds-copy_from_slice-end-in-loop-field
 slice_bounds-copy_from_slice-end-in-loop-field c =
     let x = pass_field c.requires.1 c.loop-field.invariant.pass c.loop-field-test.true in
-    omega (arith, x.there)
+    omega (arith, x.there, c.from-start.ensures)
 
 pub slice_bounds-write_element-end : goal.slice_bounds-write_element-end
 slice_bounds-write_element-end c =
     let x = pass_field c.requires.1 c.loop-field.invariant.pass c.loop-field-test.true in
-    omega (arith, x.on.inside)
+    omega (arith, x.on.inside, c.from-start.ensures, c.from-length.ensures)
 
 pub slice_bounds-write_element-end-in-loop-field : goal.slice_bounds-write_element-end-in-loop-field
 slice_bounds-write_element-end-in-loop-field c =
     let i = c.loop-field.invariant in
     let x = pass_field c.requires.1 i.pass c.loop-field-test.true in
-    omega (arith, element_room (i.writing _ c.lines.invariant.writing) i.place x c.in-len1-up.len_at_least c.copy_from_slice.ensures.after)
+    rw (c.from-start.ensures, c.from-length.ensures) (omega (arith, element_room (i.writing _ c.lines.invariant.writing) i.place x c.in-len1-up.len_at_least (rw c.from-start.ensures at c.copy_from_slice.ensures.after)))
 
 pub write_element-requires : goal.write_element-requires
 write_element-requires c =
@@ -71,9 +71,10 @@ write_element-requires c =
     let x = pass_field c.requires.1 i.pass c.loop-field-test.true in
     let more = c.in-len1-up.len_at_least in
     let f = get_or c.args.fields.now c.loop-field.field-index no_field in
-    let fits = element_room (i.writing _ c.lines.invariant.writing) i.place x more c.copy_from_slice.ensures.after in
+    let fits = element_room (i.writing _ c.lines.invariant.writing) i.place x more (rw c.from-start.ensures at c.copy_from_slice.ensures.after) in
     let out = c.loop-field.out + (f.start - c.loop-field.at) in
-    let same : out + f.length - out ≡ f.start + f.length - f.start = omega arith in (
+    let same : out + f.length - out ≡ f.start + f.length - f.start = omega arith in
+    rw (c.from-start.ensures, c.from-length.ensures) (
       record { ready = next_ready x c.requires.0.fields; read = x.image_read ∙ ap scanned_image (sym (next_part x)) },
       (checked_left _ more i.checked).0,
       lent_length _ out (out + f.length - out) (omega (arith, fits)) ∙ same ∙ sym (lent_length c.args.line.now f.start (f.start + f.length - f.start) (omega (arith, x.on.inside))),
@@ -84,12 +85,13 @@ loop-field-preserved c =
     let i = c.loop-field.invariant in
     let x = pass_field c.requires.1 i.pass c.loop-field-test.true in
     let more = c.in-len1-up.len_at_least in
-    record {
+    rw (c.from-start.ensures, c.from-length.ensures)
+    (record {
       place = place_next x i.place more;
       checked = (checked_left _ more i.checked).1;
       pass = pass_next c.requires.1 i.pass c.loop-field-test.true more;
-      writing = λ entry w. writing_element (i.writing entry w) i.place x more c.copy_from_slice.ensures.after c.write_element.ensures;
-    }
+      writing = λ entry w. writing_element (i.writing entry w) i.place x more (rw c.from-start.ensures at c.copy_from_slice.ensures.after) (rw (c.from-start.ensures, c.from-length.ensures) at c.write_element.ensures);
+    })
 
 pub slice_bounds-copy_from_slice-end-in-lines : goal.slice_bounds-copy_from_slice-end-in-lines
 slice_bounds-copy_from_slice-end-in-lines c =
@@ -128,8 +130,9 @@ pub returns-in_default : goal.returns-in_default
 returns-in_default c =
     let i = c.loop-field.invariant in
     let x = pass_field c.requires.1 i.pass c.loop-field-test.true in
-    writing_ends (writing_literals (i.writing _ c.lines.invariant.writing) i.place x.first c.copy_from_slice.ensures.after) (place_literals i.place x.first)
-    (omega (arith, c.in_default.len_below)) (literals_at c.args.line.now c.loop-field.at x.first)
+    rw c.from-start.ensures
+    (writing_ends (writing_literals (i.writing _ c.lines.invariant.writing) i.place x.first (rw c.from-start.ensures at c.copy_from_slice.ensures.after)) (place_literals i.place x.first)
+    (omega (arith, c.in_default.len_below)) (literals_at c.args.line.now c.loop-field.at x.first))
 
 pub returns-then-is_empty : goal.returns-then-is_empty
 returns-then-is_empty c =
