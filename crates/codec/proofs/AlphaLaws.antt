@@ -286,11 +286,6 @@ module _ (a : Answer (List ℕ)) (buffer : List ℕ) where
   done_answers h e stored =
       (sym (ap sized h ∙ ap {B = Answer ℕ} done e), stored ∙ sym (ap (λ (b : Answer (List ℕ)). stored_in b buffer) h))
 
--- what is answered of one packing or text is answered of another that is the same
-pub moved_answers :
-    (buffer : List ℕ) {a b : Answer (List ℕ)} {m : Answer ℕ} {after : List ℕ} → a ≡ b → m ≡ sized a → after ≡ stored_in a buffer → (m ≡ sized b) × (after ≡ stored_in b buffer)
-moved_answers buffer same answer bytes = (answer ∙ ap sized same, bytes ∙ ap (λ (x : Answer (List ℕ)). stored_in x buffer) same)
-
 -- What a number's text is, and when it is refused.
 
 -- the truncation that the code has found

@@ -37,13 +37,6 @@ pub written_stored : (b s : List ℕ) → written b 0 s ≡ stored_in (done s) b
 unfolding written stored_in
 written_stored b s = ap (λ (k : ℕ). s ++ drop k b) (zero-add (length s))
 
--- what is written is refused as its length is
-pub sized_refused_back : (a : Answer (List ℕ)) {number place : ℕ} → refused number place ≡ sized a → a ≡ refused number place
-unfolding sized
-sized_refused_back (done bytes) h = never_done h
-sized_refused_back (refused x y) {number} {place} h =
-    let same_number : x ≡ number = cc in let same_place : y ≡ place = cc in ap₂ refused same_number same_place
-
 -- and it is done where that is
 pub sized_back : (a : Answer (List ℕ)) {size : ℕ} → done size ≡ sized a → (bytes : List ℕ) × (a ≡ done bytes)
 unfolding sized

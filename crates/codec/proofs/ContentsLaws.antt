@@ -315,12 +315,6 @@ module _ {bytes : List ℕ} {count : ℕ} {ims : List Image} {body : ℕ} {rest 
         let none-long : columns_length (count - column) rest ≡ 0 = ap (λ (k : ℕ). columns_length k rest) none_left in
         omega (arith, r.lengths)
 
--- no byte is no contents
-pub contents_none : (bytes : List ℕ) → length bytes ≡ 0 → read_contents bytes ≡ refused 11 0
-unfolding read_contents
-contents_none [] h = refl
-contents_none (b ∷ bytes) h = absurd (omega arith)
-
 -- a count that can be is 1 to 16
 pub count_within : (count : ℕ) → done tt ≡ check_count count → (1 ≤ count) × (count ≤ max_columns)
 unfolding check_count

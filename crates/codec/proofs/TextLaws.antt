@@ -179,13 +179,6 @@ pub record Running (text : List ℕ) (most start value count : ℕ) : Type 0 whe
   pub counts : count + length (digits_in (most - count) (drop count text)) ≡ length (digits_in most text)
   pub values : behind_value value (digits_in (most - count) (drop count text)) ≡ behind_value start (digits_in most text)
 
--- before the first digit
-pub running_starts : (text : List ℕ) (most start : ℕ) → DigitsFit start most → Running text most start start 0
-running_starts text most start held =
-    let all : most - 0 ≡ most = omega arith in
-    let same : digits_in (most - 0) text ≡ digits_in most text = ap (λ (n : ℕ). digits_in n text) all in
-    record { held = rw all held; counts = omega (arith, ap length same); values = ap (behind_value start) same }
-
 module _ {text : List ℕ} {most start value count size : ℕ} (r : Running text most start value count) (cut : size ≡ min most (length text)) where
   -- where no digit is left
   running_ends : digits_in (most - count) (drop count text) ≡ [] → RunFound text most start value count

@@ -1,5 +1,5 @@
 -- Laws of reading a body back: the digits of a column as one whole number, its parts, and the columns from the left. Assumes nothing.
-use Prim.Native.Nat.{ℕ, suc, ◌+◌, ◌-◌, ◌*◌, ◌/◌, ◌%◌, ◌^◌, ◌<◌, ◌≤◌}
+use Prim.Native.Nat.{ℕ, suc, ◌+◌, ◌*◌, ◌/◌, ◌%◌, ◌^◌, ◌<◌, ◌≤◌}
 use mathlib.Core.Path.{◌≡◌, refl, ap, sym, ◌∙◌}
 use mathlib.Core.Logic.{⊎_elim}
 use mathlib.Core.List.{List, [], ◌∷◌, ◌++◌, append-nil, append_assoc}
@@ -45,24 +45,10 @@ two_read h l v w hs worth = go (ltb h 10) (ltb l 10) refl refl
     go true false p q = let other : done w ≡ refused 7 0 = worth ∙ rw (p, q) in never_done (sym other)
     go false b p q = let other : done w ≡ refused 7 0 = worth ∙ rw p in never_done (sym other)
 
--- a byte with another half ends the reading
-two_bad : (h l v : ℕ) (hs : List ℕ) → refused 7 0 ≡ read_on 0 (h ∷ (l ∷ [])) → read_on v (h ∷ (l ∷ hs)) ≡ refused 7 0
-unfolding read_on
-two_bad h l v hs worth = go (ltb h 10) (ltb l 10) refl refl
-  where
-    go : (a b : Bool) → ltb h 10 ≡ a → ltb l 10 ≡ b → read_on v (h ∷ (l ∷ hs)) ≡ refused 7 0
-    go true true p q = let other : refused 7 0 ≡ done ((0 * 10 + h) * 10 + l) = worth ∙ rw (p, q) in never_done other
-    go true false p q = rw (p, q)
-    go false b p q = rw p
-
 -- a column's bytes are read up to a place: the value so far, continued by the halves that are left, is the whole
 pub record ReadingRun (bytes : List ℕ) (whole : Answer ℕ) (value i : ℕ) : Type 0 where
   pub small : value < 10 ^ suc (i + i)
   pub rest : read_on value (halves_of (drop i bytes)) ≡ whole
-
--- at the start
-pub run_starts : (bytes : List ℕ) (start : ℕ) → start < 10 → ReadingRun bytes (read_on start (halves_of bytes)) start 0
-run_starts bytes start digit = record { small = omega arith; rest = refl }
 
 module _ {bytes : List ℕ} {whole : Answer ℕ} {value i : ℕ} (r : ReadingRun bytes whole value i) (more : i < length bytes) where
   -- a byte with two digits is read
@@ -80,29 +66,9 @@ module _ {bytes : List ℕ} {whole : Answer ℕ} {value i : ℕ} (r : ReadingRun
         rest = rw (add-one i) (sym two.0 ∙ sym (ap (λ (l : List ℕ). read_on value (halves_of l)) (drop-cons bytes i 0 more)) ∙ r.rest);
       }
 
-  -- a byte with another half
-  pub run_stops : refused 7 0 ≡ read_on 0 (halves_of (get_or bytes i 0 ∷ [])) → whole ≡ refused 7 0
-  unfolding halves_of
-  run_stops worth =
-      let b = get_or bytes i 0 in
-      sym r.rest
-      ∙ ap (λ (l : List ℕ). read_on value (halves_of l)) (drop-cons bytes i 0 more)
-      ∙ two_bad (b / 16) (b % 16) value (halves_of (drop (suc i) bytes)) worth
-
 -- so many digits are within a u64
 pub run_small : {bytes : List ℕ} {whole : Answer ℕ} {value i : ℕ} → ReadingRun bytes whole value i → i < 9 → value < 10 ^ 17
 run_small {bytes} {whole} {value} {i} r h = omega (arith, r.small, pow10_mono {i = suc (i + i)} {j = 17} (omega arith))
-
--- at the end
-pub run_ends : {bytes : List ℕ} {whole : Answer ℕ} {value i : ℕ} → ReadingRun bytes whole value i → length bytes ≤ i → done value ≡ whole
-unfolding halves_of read_on
-run_ends {bytes} {whole} {value} {i} r h =
-    sym (ap (λ (l : List ℕ). read_on value (halves_of l)) (drop_of_length-le bytes h)) ∙ r.rest
-
--- the worth of a byte is below 100
-pub worth_below : (b : ℕ) {w : ℕ} → done w ≡ read_on 0 (halves_of (b ∷ [])) → w < 100
-unfolding halves_of
-worth_below b {w} worth = (two_read (b / 16) (b % 16) 0 w [] worth).1
 
 -- the first half of bytes is the high half of the first
 pub first_high : (bytes : List ℕ) → 0 < length bytes → get_or bytes 0 0 / 16 ≡ get_or (halves_of bytes) 0 0
@@ -390,10 +356,6 @@ module _ {ims : List Image} {body : List ℕ} {numbers : List Number} {behind : 
     -- the part of the body that the code takes off
     same_part : unpack_column column im (take (column_size im) behind) ≡ unpack_column column im (take size behind)
     same_part = ap (λ (k : ℕ). unpack_column column im (take k behind)) (sym sized)
-
-    -- it is of the column's size
-    pub column_part : length (take size behind) ≡ column_size im
-    column_part = length-take-le size behind (omega (arith, column_inside)) ∙ sized
 
     -- a column that is refused
     pub columns_refused :

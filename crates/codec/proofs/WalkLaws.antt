@@ -114,11 +114,6 @@ module _ (text : List ℕ) (place : ℕ) (inside : place < length text) where
       (ap bytes_before cons ∙ rw (eq-eqb (legal_length (get_or text place 0 ∷ drop (suc place) text)) 0 (sym (ap legal_length cons) ∙ none)))
 
 module _ (text : List ℕ) (from : ℕ) where
-  -- the start
-  pub skip_starts : Skipping text from from
-  unfolding number_place
-  skip_starts = refl
-
   module _ (place : ℕ) (skipping : Skipping text from place) where
     -- a text number begins behind the blanks that stand here
     pub skip_here : {blanks : ℕ} → place < length text → blanks ≡ blanks_in (drop place text)

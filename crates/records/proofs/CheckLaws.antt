@@ -258,11 +258,6 @@ pub elements_next : (room index : ℕ) (es : List Element) (d : Element) → ind
     → check_element room index (get_or es index d) ≡ done tt → check_elements room (index + 1) (drop (index + 1) es) ≡ check_elements room index (drop index es)
 elements_next room index es d h e = sym (elements_cons room index es d h ∙ then_next (λ _. check_elements room (index + 1) (drop (index + 1) es)) e)
 
--- behind the last one nothing is refused
-pub elements_end : (room index : ℕ) (es : List Element) → length es ≤ index → check_elements room index (drop index es) ≡ done tt
-unfolding check_elements
-elements_end room index es h = ap (check_elements room index) (drop_of_length-le es h)
-
 -- a number by its form
 pub number_element : (room index : ℕ) {e : Element} {n : Number} → e ≡ element.Number n → check_element room index e ≡ checked_only (check_number index n)
 unfolding check_element check_number checked_only
@@ -280,20 +275,6 @@ unfolding checked_only
 dropped P (Ok x) (Ok y) h k = refl
 dropped P (Ok x) (Err e) h k = cc
 dropped P (Err e) s h k = ap meaning h
-
--- a text inside its lent bytes
-pub text_checked : (room index : ℕ) {e : Element} {from size : ℕ} → e ≡ element.Text from size → from + size ≤ room
-    → check_element room index e ≡ done tt
-unfolding check_element
-text_checked room index {e} {from} {size} h k =
-    ap (check_element room index) h ∙ ap (λ (t : Bool). pick t (done tt) (refused text_outside index)) (le-leb (from + size) room k)
-
--- a text that runs past them
-pub text_refused : (room index : ℕ) {e : Element} {from size : ℕ} → e ≡ element.Text from size → room < from + size
-    → check_element room index e ≡ refused text_outside index
-unfolding check_element
-text_refused room index {e} {from} {size} h k =
-    ap (check_element room index) h ∙ ap (λ (t : Bool). pick t (done tt) (refused text_outside index)) (lt-leb (from + size) room k)
 
 -- The whole line.
 

@@ -154,17 +154,6 @@ module _ (file : List ℕ) where
     pub file_torn : ((length file - r.size) % r.body ≡ 0 → ⊥) → read_file file ≡ refused 11 0
     file_torn w = file_short told.reads (λ z. w (left_over ∙ z))
 
-module _ (buffer : List ℕ) (used : ℕ) where
-  -- a used length past the buffer
-  pub used_past : length buffer < used → read_used buffer used ≡ refused 11 0
-  unfolding read_used
-  used_past h = rw (lt-ltb (length buffer) used h)
-
-  -- else the file in the first bytes
-  pub used_within : used ≤ length buffer → read_used buffer used ≡ read_file (take used buffer)
-  unfolding read_used
-  used_within h = rw (le-ltb (length buffer) used h)
-
 -- Showing a record.
 
 module _ (file : List ℕ) (r : ℕ) where

@@ -1,6 +1,5 @@
 -- Laws of a page's positions, looked through from the left, and what is asked of them. Assumes nothing.
-use Rattle.std.proofs.Common.{◌≡◌, ℕ, zero, suc, ◌+◌, ◌<◌, ◌≤◌, Bool, true, false, List, [], ◌∷◌, length, drop, get_or, add-one, refl, ap, sym, ◌∙◌, arith, drop-cons}
-use lib.ListN.{drop_of_length-le}
+use Rattle.std.proofs.Common.{◌≡◌, ℕ, zero, suc, ◌+◌, ◌<◌, Bool, true, false, List, [], ◌∷◌, length, drop, get_or, add-one, refl, ap, sym, ◌∙◌, arith, drop-cons}
 use Rattle.decimal.specs.declared.image.Image.{Image}
 use Rattle.decimal.specs.declared.number.Number.{Number}
 use Rattle.decimal.specs.Answer.{done, refused, ◌then◌}
@@ -23,11 +22,6 @@ module _ (ps : List Number) (k : ℕ) (d : Number) (here : k < length ps) where
   pub numbers_refused : {x y : ℕ} → check_number k (get_or ps k d) ≡ refused x y → check_numbers k (drop k ps) ≡ refused x y
   unfolding check_numbers ◌then◌
   numbers_refused h = ap (check_numbers k) (drop-cons ps k d here) ∙ rw h
-
--- behind the last nothing is refused
-pub numbers_end : (ps : List Number) (k : ℕ) → length ps ≤ k → check_numbers k (drop k ps) ≡ done tt
-unfolding check_numbers
-numbers_end ps k h = ap (check_numbers k) (drop_of_length-le ps {i = k} h)
 
 -- all that are looked through are in normal form
 numbers_normal : (index : ℕ) (ps : List Number) → check_numbers index ps ≡ done tt → (i : ℕ) → i < length ps → normal (get_or ps i zero_number) ≡ true

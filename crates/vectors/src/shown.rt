@@ -11,7 +11,8 @@ pub(crate) fn sign(negative: bool) -> char {
     if negative { '-' } else { '+' }
 }
 
-// Writes an answer: a refusal, or what is printed of the value. The program calls has its own, which writes ok before the value.
+// Writes an answer: a refusal, or what is printed of the value. The program calls has its own, which writes ok before the value: one for
+// both would be an open function of a library, which may not ask that what it is given can be called.
 pub(crate) fn print_answer<W: Write, T: Drop, F: Fn(&mut W, T) -> io::Result<()>>(
     out: &mut W,
     answer: Result<T, Refusal>,

@@ -1,6 +1,5 @@
 -- `write_alpha_under` meets its contract: the refusals in document 01's order, else the text at the buffer's start. Assumes nothing.
-use Rattle.std.proofs.Common.{◌<◌, length, ◌∙◌, arith}
-use Rattle.std.proofs.lemmas.List.{length-take-le}
+use Rattle.std.proofs.Common.{◌<◌, length, arith}
 use Rattle.codec.specs.Alpha.{writing_alpha_under, alpha_text}
 use Rattle.codec.specs.Packing.{held_by}
 use Rattle.codec.proofs.AlphaLaws.{refused_answers, text_length_lem, truncation_found, under_held, writing_under_long}

@@ -4,7 +4,7 @@ use mathlib.Core.Path.{◌≡◌, refl, ◌∙◌}
 use mathlib.Core.List.{[], ◌∷◌, ◌++◌}
 use native.Mathlib.Omega.{arith}
 use lib.Bits.{bit_or}
-use mathlib.Core.Bool.{Bool, false, false≢true}
+use mathlib.Core.Bool.{false, false≢true}
 use denote.Enum.Bare.{sameb}
 use Rattle.decimal.specs.contracts.image.Sign.{the_type}
 use Rattle.decimal.specs.declared.image.Sign.{Sign}
