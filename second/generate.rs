@@ -109,13 +109,13 @@ fn buffer_for(random: &mut Random, length: usize) -> Vec<u8> {
     (0..room.min(3_000)).map(|_| random.below(256) as u8).collect()
 }
 
-/// Gives a text: mostly one that begins as a text number.
+/// Gives a text: mostly one that begins as a text number, at times with blanks behind the sign or in another place.
 fn text(random: &mut Random) -> Vec<u8> {
     if random.below(4) == 0 {
         return bytes_of(random, b" +-.0123456789E,e\t", 20);
     }
     let mut text = bytes_of(random, b" ", 2);
-    text.extend(one_of(random, &[&b""[..], b"", b"+", b"-"]));
+    text.extend(one_of(random, &[&b""[..], b"", b"", b"+", b"-", b"-", b"+ ", b"- ", b"-   "]));
     let digits = if random.below(8) == 0 { 12 + random.below(4) } else { 1 + random.below(7) };
     let set: &[u8] = if random.below(8) == 0 { b"0" } else { b"0123456789" };
     let mut row: Vec<u8> = (0..digits).map(|_| one_of(random, set)).collect();
@@ -124,12 +124,15 @@ fn text(random: &mut Random) -> Vec<u8> {
     }
     text.extend(row);
     if random.below(3) == 0 {
-        text.extend(one_of(random, &[&b"E"[..], b"E+", b"E-", b"E9", b"E99", b"E-99", b"E-100"]));
+        text.extend(one_of(random, &[&b"E"[..], b"E+", b"E-", b"E9", b"E99", b"E-99", b"E-100", b"E ", b"E- "]));
         text.extend(bytes_of(random, b"0123456789", 2));
     }
     text.extend(bytes_of(random, b" ", 2));
     if random.below(4) == 0 {
         text.extend(bytes_of(random, b" torn.+-E5", 4));
+    }
+    if random.below(10) == 0 {
+        text.insert(random.below(text.len() + 1), b' ');
     }
     text
 }
@@ -138,7 +141,8 @@ fn text(random: &mut Random) -> Vec<u8> {
 fn long_text(random: &mut Random) -> Vec<u8> {
     let count = one_of(random, &[1, 3, 5, 15, 16, 17, 18]);
     let clean = random.below(2) == 0;
-    let part = |_| if clean { format!("{} ", random.below(100_000)).into_bytes() } else { text(random) };
+    let mark: &str = if clean { one_of(random, &["", "", "-", "- "]) } else { "" };
+    let part = |_| if clean { format!("{mark}{} ", random.below(100_000)).into_bytes() } else { text(random) };
     (0..count).flat_map(part).collect()
 }
 

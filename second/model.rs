@@ -444,11 +444,17 @@ pub fn alpha(image: &[u8], number: &Number, room: usize) -> Result<Vec<u8>, Refu
     fit(alpha_text(&image, &truncate(&image, number, 0)?), room)
 }
 
-/// Drops blanks at both ends.
-fn without_outer_blanks(mut text: &[u8]) -> &[u8] {
+/// Drops the blanks that a text begins with.
+fn without_leading_blanks(mut text: &[u8]) -> &[u8] {
     while let Some(rest) = text.strip_prefix(b" ") {
         text = rest;
     }
+    text
+}
+
+/// Drops blanks at both ends.
+fn without_outer_blanks(text: &[u8]) -> &[u8] {
+    let mut text = without_leading_blanks(text);
     while let Some(rest) = text.strip_suffix(b" ") {
         text = rest;
     }
@@ -468,9 +474,11 @@ fn exponent_form(bytes: &[u8]) -> Option<i128> {
     Some(if sign == Some(b'-') { -size } else { size })
 }
 
-/// Reads all of a text that has the form of a text number: its sign, its digits as a whole number, and the power of ten.
+/// Reads all of a text that has the form of a text number: its sign, its digits as a whole number, and the power of ten. Blanks may stand
+/// between the sign and the first digit or point (document 02, (v)).
 pub fn text_form(text: &[u8]) -> Option<(bool, u128, i128)> {
     let (sign, rest) = split_sign(without_outer_blanks(text));
+    let rest = if sign.is_some() { without_leading_blanks(rest) } else { rest };
     let (mantissa, exponent) = match rest.iter().position(|&byte| byte == b'E') {
         Some(place) => (&rest[..place], exponent_form(&rest[place + 1..])?),
         None => (rest, 0),

@@ -215,11 +215,26 @@ fn text_rows() -> String {
     texts.iter().map(|text| text_row(text)).collect()
 }
 
+/// Gives the row of a long text: a character, 4094 blanks and a digit.
+fn long_row(first: char) -> String {
+    format!("'{first}', 4094 blanks and 7: {}", read_words(&format!("{first}{}7", " ".repeat(4_094))))
+}
+
 /// Gives the rows of texts with a remark behind the number, and of texts without a number: document 02, (i).
 fn read_rows() -> String {
     let texts = ["0012.5 torn", "12E99 torn", "12E99", "torn", "", "   ", "1 2", "-", "12345678901234"];
     let short: String = texts.iter().map(|text| format!("'{text}': {}", read_words(text))).collect();
-    short + "4095 blanks and 7: " + &read_words(&(" ".repeat(4_095) + "7"))
+    short + &long_row(' ')
+}
+
+/// Gives the rows of texts with blanks behind the sign, and elsewhere inside: document 02, (v).
+fn spaced_rows() -> String {
+    let texts = [
+        "- 12.5", "- .5", "+   7 ", " -  3E2", "- 0", "- 12.5 torn", "- 12345678901234", "- 12E99", "- 12E99 torn", "- ", "- -1", "- .", "1E- 5",
+        "1E 5", "1. 5", "1 .5", ". 5", "12 - 15",
+    ];
+    let short: String = texts.iter().map(|text| format!("'{text}': {}", read_words(text))).collect();
+    short + &long_row('-')
 }
 
 /// Gives the rows of what truncation cuts off: document 02, (ii).
@@ -355,6 +370,6 @@ fn fields_rows() -> String {
 
 /// Prints all rows.
 fn main() -> std::io::Result<()> {
-    let rows = [image_rows(), size_rows(), body_rows(), text_rows(), read_rows(), cut_rows(), page_rows(), digit_rows(), line_rows(), fields_rows()];
+    let rows = [image_rows(), size_rows(), body_rows(), text_rows(), read_rows(), cut_rows(), page_rows(), digit_rows(), spaced_rows(), line_rows(), fields_rows()];
     std::io::stdout().write_all(rows.concat().as_bytes())
 }

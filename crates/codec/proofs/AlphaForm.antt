@@ -22,8 +22,9 @@ use Rattle.decimal.proofs.TruncationLaws.{truncation_fit, truncation_done}
 use Rattle.decimal.proofs.KeptLaws.{truncates_to_itself}
 use Rattle.codec.specs.Packing.{exponent_size}
 use Rattle.codec.specs.Alpha.{blank_byte, exponent_byte, digit_bytes, sign_text, fraction_text, exponent_text, alpha_text}
-use Rattle.codec.specs.Text.{PointPart, no_point, point, ExponentPart, no_exponent, exponent, TextParts, HasForm, fraction_digits, all_digits_of, point_bytes, power_bytes, numeral_bytes, text_bytes, PowerLegal, is_minus, power_value, text_value, convert_text}
+use Rattle.codec.specs.Text.{PointPart, no_point, point, ExponentPart, no_exponent, exponent, TextParts, HasForm, fraction_digits, all_digits_of, point_bytes, power_bytes, numeral_bytes, text_bytes, PowerLegal, is_minus, power_value, text_value, sign_part, convert_text}
 use Rattle.codec.proofs.FitLaws.{whole_size, stored_top, fixed_stored}
+use Rattle.codec.proofs.PartLaws.{sign_alone, part_minus}
 use Rattle.codec.proofs.FormLaws.{converts_form}
 
 -- The parts of an alpha text.
@@ -50,12 +51,12 @@ unfoldable pub alpha_power : Bool → Truncated → ExponentPart
 alpha_power false t = no_exponent
 alpha_power true t = exponent (pick (ltb t.x exponent_limit) Minus Plus) (digits_of 2 (exponent_size t))
 
--- all parts; no blank stands behind it
+-- all parts; no blank stands behind its sign, and none behind it
 unfoldable pub alpha_parts : Image → Truncated → TextParts
 alpha_parts im t =
     record {
       before = alpha_blanks im.sign t.negative;
-      sign = alpha_sign im.sign t.negative;
+      sign = sign_part (alpha_sign im.sign t.negative) 0;
       numeral =
           record {
             integer = digits_of im.integer (t.whole / 10 ^ im.fraction);
@@ -131,7 +132,7 @@ alpha_form im t some few =
             powers = power_legal im.exponential t;
           };
       written =
-          rw (fraction_text_lem im.fraction t.whole, exponent_text_lem im.exponential t, append-nil)
+          rw (fraction_text_lem im.fraction t.whole, exponent_text_lem im.exponential t, sign_alone (alpha_sign im.sign t.negative), append-nil)
           (sign_text_lem im.sign t.negative _);
     }
 
@@ -205,6 +206,7 @@ alpha_value : (im : Image) (t : Truncated) → Kept im t → text_value (alpha_p
 unfolding text_value number_of alpha_parts
 alpha_value im t kept =
     rw (
+      part_minus (alpha_sign im.sign t.negative) 0,
       alpha_minus im.sign t.negative kept.unsigned,
       alpha_power_lem im.exponential t kept.top kept.fixed,
       alpha_digits im t,

@@ -14,19 +14,19 @@ use Rattle.decimal.specs.declared.number.Number.{Number}
 use Rattle.decimal.specs.Answer.{Answer, done, refused, pick}
 use Rattle.decimal.specs.Digits.{precision, value_of}
 use Rattle.decimal.specs.Number.{exponent_limit, normal}
-use Rattle.decimal.specs.Image.{sign_bytes, times}
+use Rattle.decimal.specs.Image.{times}
 use Rattle.decimal.proofs.BoolLaws.{zero_or_not}
 use Rattle.decimal.proofs.DigitLaws.{digits_append}
 use Rattle.decimal.proofs.MagnitudeLaws.{scaled_normal}
 use Rattle.decimal.proofs.ImageLaws.{times_length}
 use Rattle.codec.specs.Alpha.{blank_byte, digit_bytes}
 use Rattle.codec.specs.Text.{ExponentPart, no_exponent, exponent, NumeralParts, TextParts, Legal, HasForm}
-use Rattle.codec.specs.Text.{fraction_digits, all_digits_of, point_bytes, power_bytes, numeral_bytes, text_bytes, PowerLegal, is_minus, power_value, text_value}
-use Rattle.codec.specs.Text.{blanks_in, digits_in, sign_in, sign_length, point_in, power_in, numeral_in, parts_in, TextReading, reading_in, legal_length, convert_text}
+use Rattle.codec.specs.Text.{sign_part_bytes, fraction_digits, all_digits_of, point_bytes, power_bytes, numeral_bytes, text_bytes, PowerLegal, has_minus, power_value, text_value}
+use Rattle.codec.specs.Text.{blanks_in, digits_in, sign_part_in, sign_part_length, point_in, power_in, numeral_in, parts_in, TextReading, reading_in, legal_length, convert_text}
 use Rattle.codec.proofs.AlphaLaws.{digit_bytes_length}
 use Rattle.codec.proofs.PartLaws.{digits_left, digits_right, blanks_go, digits_go}
-use Rattle.codec.proofs.PartLaws.{Starts, Stops, stops_end, stops_blanks, stops_power, starts_body, sign_go, sign_no_blank, power_empty, power_blanks}
-use Rattle.codec.proofs.PartLaws.{point_no_digits, point_exact, power_exact, blanks_read, digits_read, sign_read, point_read, power_read}
+use Rattle.codec.proofs.PartLaws.{Starts, Stops, stops_end, stops_blanks, stops_power, starts_body, sign_part_go, sign_part_no_blank, power_empty, power_blanks}
+use Rattle.codec.proofs.PartLaws.{point_no_digits, point_exact, power_exact, blanks_read, digits_read, sign_part_read, point_read, power_read}
 use Rattle.codec.proofs.TextLaws.{text_long, legal_none, legal_some, reading_empty, reading_number, convert_whole}
 
 -- The parts of a text are read.
@@ -46,23 +46,25 @@ reads_numeral_parts : {bytes : List ℕ} {u : NumeralParts} → NumeralReads byt
 unfolding numeral_in
 reads_numeral_parts r = rw (r.reads_integer, r.to_pointed, r.reads_fraction, r.to_powered, r.reads_power)
 
--- the bytes left before each part of a text, and the parts that are read of them
-record Reads (bytes : List ℕ) (t : TextParts) : Type 0 where
-  signed : List ℕ
-  unsigned : List ℕ
-  left : List ℕ
-  reads_before : blanks_in bytes ≡ t.before
-  to_signed : drop t.before bytes ≡ signed
-  reads_sign : sign_in signed ≡ t.sign
-  to_unsigned : drop (sign_length t.sign) signed ≡ unsigned
-  reads_numeral : numeral_in unsigned ≡ t.numeral
-  to_left : drop (length (numeral_bytes t.numeral)) unsigned ≡ left
-  reads_behind : blanks_in left ≡ t.behind
+-- the bytes left before each part of a text up to its numeral, and the parts that are read of them
+pub record FrontReads (bytes unsigned : List ℕ) (t : TextParts) : Type 0 where
+  pub signed : List ℕ
+  pub reads_before : blanks_in bytes ≡ t.before
+  pub to_signed : drop t.before bytes ≡ signed
+  pub reads_sign : sign_part_in signed ≡ t.sign
+  pub to_unsigned : drop (sign_part_length t.sign) signed ≡ unsigned
 
--- they are the parts
-reads_parts : {bytes : List ℕ} {t : TextParts} → Reads bytes t → parts_in bytes ≡ t
+-- with the numeral and the blanks behind it they are all parts
+reads_parts :
+    {bytes unsigned left : List ℕ} {t : TextParts}
+    → FrontReads bytes unsigned t
+    → numeral_in unsigned ≡ t.numeral
+    → drop (length (numeral_bytes t.numeral)) unsigned ≡ left
+    → blanks_in left ≡ t.behind
+    → parts_in bytes ≡ t
 unfolding parts_in
-reads_parts r = rw (r.reads_before, r.to_signed, r.reads_sign, r.to_unsigned, r.reads_numeral, r.to_left, r.reads_behind)
+reads_parts f reads-numeral to-left reads-behind =
+    rw (f.reads_before, f.to_signed, f.reads_sign, f.to_unsigned, reads-numeral, to-left, reads-behind)
 
 -- Blanks and bytes behind them that end a text: what is read of it goes no further than its own blanks.
 pub record Ends (n : ℕ) (r : List ℕ) : Type 0 where
@@ -101,7 +103,7 @@ numeral_append u r = simp append_assoc
 -- bytes behind a text, part by part
 pub text_append : (t : TextParts) (r : List ℕ)
     → text_bytes t ++ r
-    ≡ times t.before blank_byte ++ (sign_bytes t.sign ++ (numeral_bytes t.numeral ++ (times t.behind blank_byte ++ r)))
+    ≡ times t.before blank_byte ++ (sign_part_bytes t.sign ++ (numeral_bytes t.numeral ++ (times t.behind blank_byte ++ r)))
 unfolding text_bytes
 text_append t r = simp append_assoc
 
@@ -134,30 +136,38 @@ numeral_before u legal r stops none =
       reads_power = power_back u.power legal.powers r stops none;
     })
 
--- a text before bytes that end it reads to its parts
-text_reads : (t : TextParts) → Legal t.numeral → (r : List ℕ) → Ends t.behind r → Reads (text_bytes t ++ r) t
-text_reads t legal r ends =
+-- what stands before the numeral of a text is read, whatever stands behind the text
+pub front_reads :
+    (t : TextParts)
+    → Legal t.numeral
+    → (r : List ℕ)
+    → FrontReads (text_bytes t ++ r) (numeral_bytes t.numeral ++ (times t.behind blank_byte ++ r)) t
+front_reads t legal r =
     let behind = times t.behind blank_byte ++ r in
     let unsigned = numeral_bytes t.numeral ++ behind in
-    let signed = sign_bytes t.sign ++ unsigned in
+    let signed = sign_part_bytes t.sign ++ unsigned in
     let starts = starts_numeral t.numeral legal behind in
     rw (text_append t r)
     (record {
       signed = signed;
-      unsigned = unsigned;
-      left = behind;
-      reads_before = omega (arith, blanks_go t.before signed, sign_no_blank t.sign unsigned starts);
+      reads_before = omega (arith, blanks_go t.before signed, sign_part_no_blank t.sign unsigned starts);
       to_signed = drop_at (times t.before blank_byte) signed t.before (times_length t.before blank_byte);
-      reads_sign = sign_go t.sign unsigned starts;
-      to_unsigned = drop-append_seam (sign_bytes t.sign) unsigned;
-      reads_numeral = numeral_before t.numeral legal behind ends.stops ends.no_power;
-      to_left = drop-append_seam (numeral_bytes t.numeral) behind;
-      reads_behind = omega (arith, blanks_go t.behind r, ends.no_blank);
+      reads_sign = sign_part_go t.sign unsigned starts;
+      to_unsigned = drop-append_seam (sign_part_bytes t.sign) unsigned;
     })
+
+-- so is its sign, with the blanks behind it
+pub sign_front : (t : TextParts) → Legal t.numeral → (r : List ℕ) → (parts_in (text_bytes t ++ r)).sign ≡ t.sign
+unfolding parts_in
+sign_front t legal r = let f = front_reads t legal r in rw (f.reads_before, f.to_signed) f.reads_sign
 
 -- Published: the parts of a text are the ones that are read of it before bytes that end it.
 pub parts_before : (t : TextParts) → Legal t.numeral → (r : List ℕ) → Ends t.behind r → parts_in (text_bytes t ++ r) ≡ t
-parts_before t legal r ends = reads_parts (text_reads t legal r ends)
+parts_before t legal r ends =
+    let behind = times t.behind blank_byte ++ r in
+    reads_parts (front_reads t legal r) (numeral_before t.numeral legal behind ends.stops ends.no_power)
+    (drop-append_seam (numeral_bytes t.numeral) behind)
+    (omega (arith, blanks_go t.behind r, ends.no_blank))
 
 -- Published: and of it alone, so a text has these parts only.
 pub parts_of_form : {bytes : List ℕ} {t : TextParts} → HasForm bytes t → parts_in bytes ≡ t
@@ -197,16 +207,16 @@ unfolding parts_in
 text_front bytes =
     let before = blanks_in bytes in
     let signed = drop before bytes in
-    let sign = sign_in signed in
-    let unsigned = drop (sign_length sign) signed in
+    let sign = sign_part_in signed in
+    let unsigned = drop (sign_part_length sign) signed in
     let numeral = numeral_in unsigned in
     let left = drop (length (numeral_bytes numeral)) unsigned in
     let rest = drop (blanks_in left) left in (
       rest,
       text_append (parts_in bytes) rest
-          ∙ ap (λ (l : List ℕ). times before blank_byte ++ (sign_bytes sign ++ (numeral_bytes numeral ++ l))) (blanks_read left)
-          ∙ ap (λ (l : List ℕ). times before blank_byte ++ (sign_bytes sign ++ l)) (numeral_front unsigned)
-          ∙ ap (λ (l : List ℕ). times before blank_byte ++ l) (sign_read signed)
+          ∙ ap (λ (l : List ℕ). times before blank_byte ++ (sign_part_bytes sign ++ (numeral_bytes numeral ++ l))) (blanks_read left)
+          ∙ ap (λ (l : List ℕ). times before blank_byte ++ (sign_part_bytes sign ++ l)) (numeral_front unsigned)
+          ∙ ap (λ (l : List ℕ). times before blank_byte ++ l) (sign_part_read signed)
           ∙ blanks_read bytes,
     )
 
@@ -233,7 +243,7 @@ read_legal : (bytes : List ℕ) → (length (all_digits_of (parts_in bytes).nume
 unfolding parts_in
 read_legal bytes some =
     let signed = drop (blanks_in bytes) bytes in
-    numeral_legal (drop (sign_length (sign_in signed)) signed) some
+    numeral_legal (drop (sign_part_length (sign_part_in signed)) signed) some
 
 -- Published: what is read has the form, with the parts that are read.
 pub form_of_parts : (bytes : List ℕ) → (length (all_digits_of (parts_in bytes).numeral) ≡ 0 → ⊥) → HasForm (take (legal_length bytes) bytes) (parts_in bytes)
@@ -259,7 +269,7 @@ form_length {bytes} {t} form =
     ∙ ap length (sym form.written)
 
 -- a text has some byte
-form_some : {bytes : List ℕ} {t : TextParts} → HasForm bytes t → 0 < length bytes
+pub form_some : {bytes : List ℕ} {t : TextParts} → HasForm bytes t → 0 < length bytes
 form_some {bytes} {t} form = omega (arith, ap length form.written, text_long t, form.legal.some)
 
 -- Published: a text converts to the value of its parts.
@@ -304,6 +314,6 @@ converts_normal bytes {n} h =
     let z : ◌≡◌ {A = ℕ} 0 1 = cc in
     absurd (omega arith))
     (λ (some : legal_length bytes ≡ 0 → ⊥).
-    scaled_normal 0 (is_minus t.sign) (value_of (all_digits_of u)) (power_value u.power) (exponent_limit + length (fraction_digits u.fraction))
+    scaled_normal 0 (has_minus t.sign) (value_of (all_digits_of u)) (power_value u.power) (exponent_limit + length (fraction_digits u.fraction))
     (sym (reading_number bytes some) ∙ read))
     (zero_or_not (legal_length bytes))

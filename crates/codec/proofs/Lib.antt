@@ -33,3 +33,4 @@ pub mod ReadingTheorem
 pub mod WalkLaws
 pub mod CutTheorem
 pub mod WalkTheorem
+pub mod StrictTheorem

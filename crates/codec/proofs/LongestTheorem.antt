@@ -13,16 +13,15 @@ use Rattle.decimal.specs.Answer.{refused}
 use Rattle.decimal.specs.Digits.{precision, Digits}
 use Rattle.decimal.specs.Image.{sign_bytes, times}
 use Rattle.decimal.proofs.BoolLaws.{zero_or_not}
-use Rattle.decimal.proofs.ImageLaws.{times_length}
 use Rattle.codec.specs.Alpha.{blank_byte, digit_bytes}
-use Rattle.codec.specs.Text.{PointPart, no_point, point, ExponentPart, no_exponent, exponent, NumeralParts, TextParts, Legal, HasForm, LongestForm}
+use Rattle.codec.specs.Text.{SignPart, PointPart, no_point, point, ExponentPart, no_exponent, exponent, NumeralParts, TextParts, Legal, HasForm, LongestOf, LongestForm}
 use Rattle.codec.specs.Text.{fraction_digits, all_digits_of, point_bytes, power_bytes, numeral_bytes, text_bytes, PowerLegal}
-use Rattle.codec.specs.Text.{blanks_in, digits_in, sign_in, sign_length, point_in, power_in, numeral_in, parts_in, TextReading, no_reading, reading_in, legal_length, convert_text}
+use Rattle.codec.specs.Text.{blanks_in, digits_in, sign_length, sign_part_in, sign_part_length, point_in, power_in, numeral_in, parts_in, TextReading, no_reading, reading_in, legal_length, convert_text}
 use Rattle.codec.proofs.AlphaLaws.{digit_bytes_length}
 use Rattle.codec.proofs.PartLaws.{digits_left, digits_right, blanks_go, digits_go, point_go, power_go}
-use Rattle.codec.proofs.PartLaws.{Stops, stops_blanks, stops_power, sign_go, sign_no_blank, power_blanks}
+use Rattle.codec.proofs.PartLaws.{Stops, stops_blanks, stops_power, power_blanks}
 use Rattle.codec.proofs.PartLaws.{point_no_digit, point_exact, power_exact}
-use Rattle.codec.proofs.FormLaws.{numeral_append, text_append, starts_numeral, text_front, form_of_parts, converts_form}
+use Rattle.codec.proofs.FormLaws.{numeral_append, front_reads, text_front, form_of_parts, converts_form}
 use Rattle.codec.proofs.TextLaws.{numeral_length, text_length_lem, point_long, legal_none, legal_some, reading_empty, reading_number, convert_whole}
 
 -- How many bytes are read from each part on.
@@ -72,20 +71,20 @@ unfolding numeral_in digits_count
 numeral_count bs = length-append (numeral_in bs).integer (fraction_digits (numeral_in bs).fraction)
 
 -- a sign and what is behind it
-unfoldable sign_tail : Sign → List ℕ → ℕ
-sign_tail sign bs = sign_length sign + numeral_tail (drop (sign_length sign) bs)
+unfoldable sign_tail : SignPart → List ℕ → ℕ
+sign_tail sign bs = sign_part_length sign + numeral_tail (drop (sign_part_length sign) bs)
 
 -- and the digits behind it
-unfoldable signed_count : Sign → List ℕ → ℕ
-signed_count sign bs = length (all_digits_of (numeral_in (drop (sign_length sign) bs)))
+unfoldable signed_count : SignPart → List ℕ → ℕ
+signed_count sign bs = length (all_digits_of (numeral_in (drop (sign_part_length sign) bs)))
 
 -- blanks and what is behind them
 unfoldable blanks_tail : ℕ → List ℕ → ℕ
-blanks_tail n bs = n + sign_tail (sign_in (drop n bs)) (drop n bs)
+blanks_tail n bs = n + sign_tail (sign_part_in (drop n bs)) (drop n bs)
 
 -- and the digits behind them
 unfoldable all_count : ℕ → List ℕ → ℕ
-all_count n bs = signed_count (sign_in (drop n bs)) (drop n bs)
+all_count n bs = signed_count (sign_part_in (drop n bs)) (drop n bs)
 
 -- all that is read
 read_length : (bytes : List ℕ) → length (text_bytes (parts_in bytes)) ≡ blanks_tail (blanks_in bytes) bytes
@@ -268,22 +267,18 @@ record Covered (size : ℕ) (bytes : List ℕ) : Type 0 where
 text_covered : (t : TextParts) → Legal t.numeral → (r : List ℕ) → Covered (length (text_bytes t)) (text_bytes t ++ r)
 unfolding blanks_tail sign_tail all_count signed_count
 text_covered t legal r =
+    let bytes = text_bytes t ++ r in
     let unsigned = numeral_bytes t.numeral ++ (times t.behind blank_byte ++ r) in
-    let signed = sign_bytes t.sign ++ unsigned in
-    let bytes = times t.before blank_byte ++ signed in
-    let starts = starts_numeral t.numeral legal (times t.behind blank_byte ++ r) in
+    let f = front_reads t legal r in
     let covered = numeral_covered t.numeral legal t.behind r in
-    let reads_before : blanks_in bytes ≡ t.before = omega (arith, blanks_go t.before signed, sign_no_blank t.sign unsigned starts) in
-    let to_signed : drop t.before bytes ≡ signed = drop_at (times t.before blank_byte) signed t.before (times_length t.before blank_byte) in
-    let reads_sign : sign_in signed ≡ t.sign = sign_go t.sign unsigned starts in
-    let to_unsigned : drop (sign_length t.sign) signed ≡ unsigned = drop-append_seam (sign_bytes t.sign) unsigned in
-    let tail : blanks_tail (blanks_in bytes) bytes ≡ t.before + (sign_length t.sign + numeral_tail unsigned) = rw (reads_before, to_signed, reads_sign, to_unsigned) in
-    let count : all_count (blanks_in bytes) bytes ≡ length (all_digits_of (numeral_in unsigned)) = rw (reads_before, to_signed, reads_sign, to_unsigned) in
-    rw (text_append t r)
-    (record {
+    let tail : blanks_tail (blanks_in bytes) bytes ≡ t.before + (sign_part_length t.sign + numeral_tail unsigned) =
+    rw (f.reads_before, f.to_signed, f.reads_sign, f.to_unsigned) in
+    let count : all_count (blanks_in bytes) bytes ≡ length (all_digits_of (numeral_in unsigned)) =
+    rw (f.reads_before, f.to_signed, f.reads_sign, f.to_unsigned) in
+    record {
       long = omega (arith, text_length_lem t, read_length bytes, tail, covered.long);
       some = omega (arith, read_count bytes, count, covered.some);
-    })
+    }
 
 -- a beginning that has the form is read, and perhaps more
 beginning_covered : (bytes : List ℕ) (n : ℕ) (t : TextParts) → n ≤ length bytes → HasForm (take n bytes) t → Covered n bytes
@@ -300,29 +295,29 @@ longest bytes =
     let size = legal_none bytes none in
     record {
       inside = omega arith;
-      has_form = λ some. absurd (some size);
-      longest = λ n t inside form. absurd (omega (arith, (beginning_covered bytes n t inside form).some));
+      is = λ some. absurd (some size);
+      longest = λ n inside text. absurd (omega (arith, (beginning_covered bytes n text.0 inside text.1).some));
     })
     (λ (some : length (all_digits_of (parts_in bytes).numeral) ≡ 0 → ⊥).
     let size = legal_some bytes some in
     let front = text_front bytes in
     record {
       inside = omega (arith, length-append (text_bytes (parts_in bytes)) front.0, ap length front.1);
-      has_form = λ _. (parts_in bytes, form_of_parts bytes some);
-      longest = λ n t inside form. omega (arith, (beginning_covered bytes n t inside form).long);
+      is = λ _. (parts_in bytes, form_of_parts bytes some);
+      longest = λ n inside text. omega (arith, (beginning_covered bytes n text.0 inside text.1).long);
     })
     (zero_or_not (length (all_digits_of (parts_in bytes).numeral)))
 
 -- of two lengths of which each is the longest, neither is shorter
-longest_least : {bytes : List ℕ} {a b : ℕ} → LongestForm bytes a → LongestForm bytes b → a ≤ b
-longest_least {bytes} {a} {b} p q =
+longest_least : {Kind : List ℕ → Type 0} {bytes : List ℕ} {a b : ℕ} → LongestOf Kind bytes a → LongestOf Kind bytes b → a ≤ b
+longest_least {bytes = bytes} {a} {b} p q =
     ⊎_elim
     (λ (none : a ≡ 0). omega arith)
-    (λ (some : a ≡ 0 → ⊥). let form = p.has_form some in q.longest a form.0 p.inside form.1)
+    (λ (some : a ≡ 0 → ⊥). q.longest a p.inside (p.is some))
     (zero_or_not a)
 
 -- Published: one length is the longest.
-pub longest_unique : {bytes : List ℕ} {a b : ℕ} → LongestForm bytes a → LongestForm bytes b → a ≡ b
+pub longest_unique : {Kind : List ℕ → Type 0} {bytes : List ℕ} {a b : ℕ} → LongestOf Kind bytes a → LongestOf Kind bytes b → a ≡ b
 longest_unique p q = le_antisymm (longest_least p q) (longest_least q p)
 
 -- What is read of bytes, and converting.

@@ -15,7 +15,9 @@ use Rattle.decimal.specs.Answer.{pick}
 use Rattle.decimal.specs.Digits.{Digits}
 use Rattle.decimal.specs.Image.{plus_byte, minus_byte, point_byte, sign_bytes, times}
 use Rattle.decimal.proofs.BoolLaws.{and_true}
+use Rattle.decimal.proofs.ImageLaws.{times_length}
 use Rattle.codec.specs.Alpha.{blank_byte, exponent_byte, zero_byte, digit_bytes}
+use Rattle.codec.specs.Text.{SignPart, no_sign, plus_sign, minus_sign, sign_part_bytes, is_minus, has_minus, sign_part, sign_part_in, sign_part_length}
 use Rattle.codec.specs.Text.{PointPart, no_point, point, ExponentPart, no_exponent, exponent, fraction_digits, point_bytes, power_bytes, PowerLegal}
 use Rattle.codec.specs.Text.{blanks_in, is_digit, digits_in, sign_in, sign_length, point_in, power_of, power_in}
 use Rattle.codec.proofs.AlphaLaws.{digit_bytes_length}
@@ -141,12 +143,33 @@ sign_go Unsigned r h = h.no_sign
 sign_go Plus r h = refl
 sign_go Minus r h = refl
 
--- and is no blank
-pub sign_no_blank : (sign : Sign) (r : List ℕ) → Starts r → blanks_in (sign_bytes sign ++ r) ≡ 0
-unfolding sign_bytes
-sign_no_blank Unsigned r h = h.no_blank
-sign_no_blank Plus r h = refl
-sign_no_blank Minus r h = refl
+-- a sign with no blank behind it is the sign alone
+pub sign_alone : (sign : Sign) → sign_part_bytes (sign_part sign 0) ≡ sign_bytes sign
+unfolding sign_part_bytes sign_part sign_bytes times
+sign_alone Unsigned = refl
+sign_alone Plus = refl
+sign_alone Minus = refl
+
+-- a sign with blanks behind it is a minus where the sign is one
+pub part_minus : (sign : Sign) (blanks : ℕ) → has_minus (sign_part sign blanks) ≡ is_minus sign
+unfolding has_minus is_minus sign_part
+part_minus Unsigned blanks = refl
+part_minus Plus blanks = refl
+part_minus Minus blanks = refl
+
+-- a sign and blanks before such bytes are read
+pub sign_part_go : (sign : SignPart) (r : List ℕ) → Starts r → sign_part_in (sign_part_bytes sign ++ r) ≡ sign
+unfolding sign_part_in sign_part_bytes sign_part sign_in sign_bytes
+sign_part_go no_sign r h = ap (λ (s : Sign). sign_part s (blanks_in (drop (sign_length s) r))) h.no_sign
+sign_part_go (plus_sign n) r h = ap plus_sign (omega (arith, blanks_go n r, h.no_blank))
+sign_part_go (minus_sign n) r h = ap minus_sign (omega (arith, blanks_go n r, h.no_blank))
+
+-- and begin with no blank
+pub sign_part_no_blank : (sign : SignPart) (r : List ℕ) → Starts r → blanks_in (sign_part_bytes sign ++ r) ≡ 0
+unfolding sign_part_bytes
+sign_part_no_blank no_sign r h = h.no_blank
+sign_part_no_blank (plus_sign n) r h = refl
+sign_part_no_blank (minus_sign n) r h = refl
 
 -- digits behind a point go on
 pub point_go : (ds : List ℕ) → Digits ds → (most : ℕ) → length ds ≤ most → (r : List ℕ)
@@ -273,6 +296,21 @@ pub sign_read : (bs : List ℕ) → sign_bytes (sign_in bs) ++ drop (sign_length
 unfolding sign_in sign_bytes
 sign_read [] = refl
 sign_read (b ∷ bs) = front_sign b bs (eqb b plus_byte) (eqb b minus_byte) refl refl
+
+-- blanks behind a sign
+front_spaced : (sign : Sign) (bs r : List ℕ) (n : ℕ) → sign_bytes sign ++ r ≡ bs → times n blank_byte ++ drop n r ≡ r
+    → sign_part_bytes (sign_part sign n) ++ drop (sign_part_length (sign_part sign n)) bs ≡ bs
+unfolding sign_part_bytes sign_part sign_bytes
+front_spaced Unsigned bs r n e h = refl
+front_spaced Plus bs r n e h = rw (← e, times_length n blank_byte) (ap (λ (l : List ℕ). plus_byte ∷ l) h)
+front_spaced Minus bs r n e h = rw (← e, times_length n blank_byte) (ap (λ (l : List ℕ). minus_byte ∷ l) h)
+
+-- the sign and the blanks behind it
+pub sign_part_read : (bs : List ℕ) → sign_part_bytes (sign_part_in bs) ++ drop (sign_part_length (sign_part_in bs)) bs ≡ bs
+unfolding sign_part_in
+sign_part_read bs =
+    let r = drop (sign_length (sign_in bs)) bs in
+    front_spaced (sign_in bs) bs r (blanks_in r) (sign_read bs) (blanks_read r)
 
 -- a point with at most so many digits, or none, at the front of bytes
 pub record PointFronts (most : ℕ) (bs : List ℕ) (f : PointPart) : Type 0 where

@@ -22,7 +22,7 @@ use Rattle.decimal.proofs.PowerLaws.{pow10_mono}
 use Rattle.decimal.proofs.DigitLaws.{value_below}
 use Rattle.decimal.proofs.ConstructorTheorem.{scaled_exactly}
 use Rattle.codec.specs.Alpha.{alpha_text}
-use Rattle.codec.specs.Text.{NumeralParts, TextParts, Legal, HasForm, LongestForm, fraction_digits, all_digits_of, is_minus, power_value, text_value}
+use Rattle.codec.specs.Text.{NumeralParts, TextParts, Legal, HasForm, LongestForm, fraction_digits, all_digits_of, has_minus, power_value, text_value}
 use Rattle.codec.specs.Text.{reading_in, legal_length, TextNumber, read_text, IsNumberOf, IsOutside, Beginning, ReadsAs, convert_text, WholeText, ReadWhole, read_texts}
 use Rattle.codec.specs.Text as text
 use Rattle.codec.proofs.TextLaws.{convert_whole, convert_other, reads_none, reads_number, reads_refused}
@@ -39,12 +39,12 @@ form_fits {u} legal = let few = legal.few in omega (arith, value_below (all_digi
 -- each answer that its value has, exactly where it is due
 abbrev Exactly : TextParts → Type 0
 Exactly t =
-    ScaledExactly 0 (is_minus t.sign) (value_of (all_digits_of t.numeral)) (power_value t.numeral.power)
+    ScaledExactly 0 (has_minus t.sign) (value_of (all_digits_of t.numeral)) (power_value t.numeral.power)
     (exponent_limit + length (fraction_digits t.numeral.fraction))
 
 exactly : (t : TextParts) → Exactly t
 exactly t =
-    scaled_exactly 0 (is_minus t.sign) (value_of (all_digits_of t.numeral)) (power_value t.numeral.power)
+    scaled_exactly 0 (has_minus t.sign) (value_of (all_digits_of t.numeral)) (power_value t.numeral.power)
     (exponent_limit + length (fraction_digits t.numeral.fraction))
 
 module _ {bytes : List ℕ} {t : TextParts} (form : HasForm bytes t) where
@@ -98,7 +98,7 @@ module _ (bytes : List ℕ) where
   -- there is one, unless the legal length is 0
   pub some_beginning : (legal_length bytes ≡ 0 → ⊥) → (t : TextParts) × Beginning bytes (legal_length bytes) t
   some_beginning some =
-      let form = (longest bytes).has_form some in
+      let form = (longest bytes).is some in
       (form.0, record { some = omega arith; longest = longest bytes; form = form.1 })
 
   -- some answer is due

@@ -28,52 +28,10 @@ use Rattle.decimal.proofs.DigitLaws.{le_or_lt, value_append, value_below}
 use Rattle.decimal.proofs.ImageLaws.{times_length}
 use Rattle.codec.specs.declared.text.Numeral.{Numeral}
 use Rattle.codec.specs.Columns.{sign_count}
-use Rattle.codec.specs.Alpha.{exponent_byte, zero_byte, digit_bytes}
-use Rattle.codec.specs.Text.{
-  PointPart,
-  no_point,
-  point,
-  ExponentPart,
-  no_exponent,
-  exponent,
-  NumeralParts,
-  TextParts,
-  fraction_digits,
-  all_digits_of,
-  point_bytes,
-  power_bytes,
-  numeral_bytes,
-  text_bytes,
-  is_minus,
-  power_value,
-  text_value,
-  blanks_in,
-  is_digit,
-  digits_in,
-  sign_in,
-  sign_length,
-  point_in,
-  power_of,
-  power_in,
-  numeral_in,
-  parts_in,
-  TextReading,
-  no_reading,
-  reading_of,
-  reading_in,
-  legal_length,
-  TextNumber,
-  read_text,
-  convert_text,
-  held_digits,
-  DigitsFit,
-  behind_value,
-  RunFound,
-  FractionFound,
-  PowerFound,
-  NumeralFound,
-}
+use Rattle.codec.specs.Alpha.{blank_byte, exponent_byte, zero_byte, digit_bytes}
+use Rattle.codec.specs.Text.{PointPart, no_point, point, ExponentPart, no_exponent, exponent, NumeralParts, TextParts, fraction_digits, all_digits_of, sign_part_bytes, point_bytes, power_bytes, numeral_bytes, text_bytes, is_minus, power_value, text_value, blanks_in, is_digit, digits_in, sign_in, sign_length, sign_part, sign_part_in, sign_part_length, point_in, power_of, power_in, numeral_in, parts_in, TextReading, no_reading, reading_of, reading_in, legal_length, TextNumber, read_text, convert_text, held_digits, DigitsFit, behind_value, SignFound, RunFound, FractionFound, PowerFound, NumeralFound}
 use Rattle.codec.proofs.AlphaLaws.{digit_bytes_length, sign_bytes_length}
+use Rattle.codec.proofs.PartLaws.{part_minus, sign_part_read}
 
 -- Bytes that are digits.
 
@@ -305,6 +263,64 @@ signs_found bytes {sign} said counted =
     let long = counted ∙ sym (sign_bytes_length sign) in
     (long, omega (arith, long ∙ ap sign_length said, sign_within bytes))
 
+-- no sign and no blank behind it
+part_none : (sign : Sign) (blanks : ℕ) → sign_count sign ≡ 0 → sign_part_length (sign_part sign blanks) ≡ 0
+unfolding sign_part_bytes sign_part
+part_none Unsigned blanks h = refl
+part_none Plus blanks h = absurd (omega arith)
+part_none Minus blanks h = absurd (omega arith)
+
+-- a sign and the blanks behind it
+part_some : (sign : Sign) (blanks : ℕ) → (sign_count sign ≡ 0 → ⊥) → sign_part_length (sign_part sign blanks) ≡ sign_count sign + blanks
+unfolding sign_part_bytes sign_part
+part_some Unsigned blanks h = absurd (h refl)
+part_some Plus blanks h = omega (arith, times_length blanks blank_byte)
+part_some Minus blanks h = omega (arith, times_length blanks blank_byte)
+
+-- the sign and the blanks are within the bytes
+pub sign_part_within : (bytes : List ℕ) → sign_part_length (sign_part_in bytes) ≤ length bytes
+sign_part_within bytes =
+    omega (
+      arith,
+      ap length (sign_part_read bytes),
+      length-append (sign_part_bytes (sign_part_in bytes)) (drop (sign_part_length (sign_part_in bytes)) bytes),
+    )
+
+module _ (bytes : List ℕ) {sign : Sign} {signs : ℕ} (said : sign ≡ sign_in bytes) (counted : signs ≡ sign_count sign) where
+  -- where no sign is counted, nothing is used
+  pub spaced_none : {minus : Bool} {blanks : ℕ} → minus ≡ is_minus sign → signs ≡ 0 → blanks ≡ 0 → SignFound bytes minus (signs + blanks)
+  unfolding sign_part_in
+  spaced_none is none bare =
+      let blanks = blanks_in (drop (sign_length (sign_in bytes)) bytes) in
+      record {
+        valued = is ∙ ap is_minus said ∙ sym (part_minus (sign_in bytes) blanks);
+        spanned = omega (arith, bare, part_none (sign_in bytes) blanks (sym (ap sign_count said) ∙ sym counted ∙ none));
+      }
+
+  -- else it and the blanks behind it are
+  pub spaced_some : {minus : Bool} {blanks : ℕ} → minus ≡ is_minus sign → (signs ≡ 0 → ⊥) → blanks ≡ blanks_in (onward signs bytes)
+      → SignFound bytes minus (signs + blanks)
+  unfolding sign_part_in
+  spaced_some {minus} {blanks} is some run =
+      let size : signs ≡ sign_length (sign_in bytes) = (signs_found bytes said counted).0 ∙ ap sign_length said in
+      let all : blanks ≡ blanks_in (drop (sign_length (sign_in bytes)) bytes) =
+      run ∙ ap blanks_in (take_rest bytes signs) ∙ ap (λ (n : ℕ). blanks_in (drop n bytes)) size in
+      let count : sign_count (sign_in bytes) ≡ signs = sym (counted ∙ ap sign_count said) in
+      record {
+        valued = is ∙ ap is_minus said ∙ sym (part_minus (sign_in bytes) (blanks_in (drop (sign_length (sign_in bytes)) bytes)));
+        spanned =
+            omega (
+              arith,
+              all,
+              count,
+              part_some (sign_in bytes) (blanks_in (drop (sign_length (sign_in bytes)) bytes)) (λ e. some (sym count ∙ e)),
+            );
+      }
+
+-- what is found of a sign is within the bytes
+pub sign_inside : {bytes : List ℕ} {minus : Bool} {used : ℕ} → SignFound bytes minus used → used ≤ length bytes
+sign_inside {bytes} s = omega (arith, s.spanned, sign_part_within bytes)
+
 -- a point and digits are one byte more than the digits, or none
 point_short : (test : Bool) (ds : List ℕ) → length (point_bytes (pick test (point ds) no_point)) ≤ suc (length ds)
 unfolding point_bytes
@@ -492,7 +508,7 @@ unfolding numeral_bytes
 numeral_length u = simp (length-append, digit_bytes_length)
 
 -- the length of a text is the sum of its parts' lengths
-pub text_length_lem : (t : TextParts) → length (text_bytes t) ≡ t.before + (sign_length t.sign + (length (numeral_bytes t.numeral) + t.behind))
+pub text_length_lem : (t : TextParts) → length (text_bytes t) ≡ t.before + (sign_part_length t.sign + (length (numeral_bytes t.numeral) + t.behind))
 unfolding text_bytes
 text_length_lem t = simp (length-append, times_length)
 
@@ -593,9 +609,9 @@ module _ (bytes : List ℕ) {value count whole places points : ℕ} (integer : R
 unfoldable pub signed_in : List ℕ → List ℕ
 signed_in text = drop (blanks_in text) text
 
--- the bytes behind the sign
+-- the bytes behind the sign and its blanks
 unfoldable pub unsigned_in : List ℕ → List ℕ
-unsigned_in text = drop (sign_length (sign_in (signed_in text))) (signed_in text)
+unsigned_in text = drop (sign_part_length (sign_part_in (signed_in text))) (signed_in text)
 
 -- the bytes behind the numeral
 unfoldable pub end_in : List ℕ → List ℕ
@@ -649,27 +665,21 @@ module _ (text : List ℕ) where
   unfolding convert_text
   convert_other other = rw (ne_eqb (legal_length text) (length text) other)
 
-  module _ {before signs : ℕ} {sign : Sign} {n : Numeral} (first : before ≡ blanks_in text) (said : sign ≡ sign_in (onward before text))
-      (counted : signs ≡ sign_count sign) (found : NumeralFound (onward signs (onward before text)) n) where
+  module _ {before signs : ℕ} {minus : Bool} {n : Numeral} (first : before ≡ blanks_in text) (said : SignFound (onward before text) minus signs)
+      (found : NumeralFound (onward signs (onward before text)) n) where
     -- the bytes behind the blanks
     to_signed : onward before text ≡ signed_in text
     unfolding signed_in
     to_signed = take_rest text before ∙ ap (λ (n : ℕ). drop n text) first
 
     -- the sign there
-    signed : sign ≡ sign_in (signed_in text)
-    signed = said ∙ ap sign_in to_signed
+    signed : SignFound (signed_in text) minus signs
+    signed = rw to_signed at said
 
-    -- its length
-    sign_size : signs ≡ sign_length sign
-    sign_size = (signs_found (onward before text) said counted).0
-
-    -- the bytes behind the sign
+    -- the bytes behind it
     to_unsigned : onward signs (onward before text) ≡ unsigned_in text
     unfolding unsigned_in
-    to_unsigned =
-        let size : signs ≡ sign_length (sign_in (signed_in text)) = sign_size ∙ ap sign_length signed in
-        take_rest (onward before text) signs ∙ (λ i. drop (size i) (to_signed i))
+    to_unsigned = take_rest (onward before text) signs ∙ (λ i. drop (signed.spanned i) (to_signed i))
 
     -- the numeral there
     numeral : NumeralFound (unsigned_in text) n
@@ -681,24 +691,21 @@ module _ (text : List ℕ) where
     read_none none = sym (reading_none (sym numeral.counted ∙ none))
 
     -- digits were read, and the parts make the text
-    pub read_some : {behind : ℕ} {minus : Bool} {number : Answer Number}
+    pub read_some : {behind : ℕ} {number : Answer Number}
         → (n.count ≡ 0 → ⊥)
         → behind ≡ blanks_in (onward n.used (onward signs (onward before text)))
-        → minus ≡ is_minus sign
         → number ≡ scaled_number 0 minus n.value n.up (exponent_limit + n.places)
         → ◌≡◌ {A = TextReading} (record { used = before + signs + n.used + behind; number = number }) (reading_in text)
     unfolding parts_in end_in unsigned_in signed_in text_value
-    read_some {behind} {minus} {number} some last negative scaled =
+    read_some {behind} {number} some last scaled =
         let t = parts_in text in
         let digits : length (all_digits_of t.numeral) ≡ 0 → ⊥ = λ h. some (numeral.counted ∙ h) in
         let to_end : onward n.used (onward signs (onward before text)) ≡ end_in text =
         take_rest (onward signs (onward before text)) n.used ∙ (λ i. drop (numeral.spanned i) (to_unsigned i)) in
-        let signs-are : signs ≡ sign_length t.sign = sign_size ∙ ap sign_length signed in
-        let minus_is : minus ≡ is_minus t.sign = negative ∙ ap is_minus signed in
         let down_is = ap (λ (k : ℕ). exponent_limit + k) numeral.placed in
-        let value-is : number ≡ text_value t = scaled ∙ (λ i. scaled_number 0 (minus_is i) (numeral.valued i) (numeral.powered i) (down_is i)) in
+        let value-is : number ≡ text_value t = scaled ∙ (λ i. scaled_number 0 (signed.valued i) (numeral.valued i) (numeral.powered i) (down_is i)) in
         let size_is : before + signs + n.used + behind ≡ length (text_bytes t) =
-        omega (arith, text_length_lem t, first, signs-are, numeral.spanned, last ∙ ap blanks_in to_end) in
+        omega (arith, text_length_lem t, first, signed.spanned, numeral.spanned, last ∙ ap blanks_in to_end) in
         (λ i. record { used = size_is i; number = value-is i }) ∙ sym (reading_some digits)
 
 -- What an answer that is the reading of bytes says.

@@ -18,11 +18,11 @@ use Rattle.decimal.specs.Truncation.{Truncated, truncation}
 use Rattle.decimal.proofs.TruncationLaws.{truncation_fit}
 use Rattle.codec.specs.Lists.{max_columns}
 use Rattle.codec.specs.Alpha.{blank_byte, alpha_text, alpha_under, alpha_of, alpha_texts, parted}
-use Rattle.codec.specs.Text.{TextParts, Legal, HasForm, fraction_digits, all_digits_of, text_bytes, text_value, blanks_in, sign_in, digits_in, point_in, power_in, numeral_in, parts_in, reading_in, legal_length, read_texts}
+use Rattle.codec.specs.Text.{TextParts, Legal, HasForm, fraction_digits, all_digits_of, text_bytes, text_value, blanks_in, sign_in, sign_part, sign_part_in, sign_part_bytes, digits_in, point_in, power_in, numeral_in, parts_in, reading_in, legal_length, read_texts}
 use Rattle.codec.specs.Walking.{bytes_before, number_place, FirstPlace, stop_before, stopped, numbers_in, walking, line_end, LineBack}
 use Rattle.decimal.proofs.AnswerLaws.{then_done}
 use Rattle.codec.proofs.TextLaws.{text_length_lem, text_long, legal_some, reading_number}
-use Rattle.codec.proofs.PartLaws.{stops_byte, sign_no_blank}
+use Rattle.codec.proofs.PartLaws.{stops_byte, sign_part_no_blank}
 use Rattle.codec.proofs.FormLaws.{Ends, ends_blanks, ends_last, text_append, starts_numeral, parts_before, converts_form}
 use Rattle.codec.proofs.AlphaForm.{alpha_parts, alpha_form, alpha_reads_back}
 use Rattle.codec.proofs.LongestTheorem.{empty_length}
@@ -88,7 +88,7 @@ bare_blanks : (t : TextParts) → Legal t.numeral → (r : List ℕ) → blanks_
 unfolding times
 bare_blanks t legal r =
     ap blanks_in (text_append (bare t) r)
-    ∙ sign_no_blank t.sign _ (starts_numeral t.numeral legal _)
+    ∙ sign_part_no_blank t.sign _ (starts_numeral t.numeral legal _)
 
 -- Texts.
 
@@ -191,7 +191,7 @@ end_ends = record { ends = ends_last 0; no_number = empty_length }
 
 -- so does the byte behind it
 byte_ends : (others : List ℕ) → LineEnd (line_end ∷ others)
-unfolding times sign_in sign_bytes digits_in point_in power_in numeral_in parts_in fraction_digits reading_in
+unfolding times sign_in sign_bytes sign_part sign_part_in sign_part_bytes digits_in point_in power_in numeral_in parts_in fraction_digits reading_in
 byte_ends others =
     record {
       ends = record { stops = stops_byte line_end others refl (λ e. omega (arith, e)); no_power = refl; no_blank = refl };

@@ -12,3 +12,4 @@ pub mod Alpha
 pub mod Text
 pub mod KnownTexts
 pub mod Walking
+pub mod StrictText

@@ -1,4 +1,4 @@
--- Document 01, Alpha text, second paragraph, and document 02, (i): text numbers.
+-- Document 01, Alpha text, second paragraph, and document 02, (i) and (v): text numbers.
 use Rattle.std.specs.Prelude.{ℕ, zero, suc, ◌+◌, ◌-◌, ◌*◌, ◌^◌, ◌≤◌, ◌<◌, ◌≡◌, ◌↔◌, List, [], ◌∷◌, ◌++◌, Bool, true, false, ◌&&◌, length, take, drop, ltb, leb, eqb}
 use Rattle.decimal.specs.declared.image.Sign.{Sign}
 use Rattle.decimal.specs.declared.image.Sign.TheVariants.{Unsigned, Plus, Minus}
@@ -7,14 +7,21 @@ use Rattle.decimal.specs.Answer.{Answer, done, refused, ◌then◌, pick, meanin
 use Rattle.decimal.specs.Digits.{precision, Digits, value_of}
 use Rattle.decimal.specs.Number.{exponent_limit, scaled_number}
 use Rattle.decimal.specs.Constructors.{IsScaled, ScaledOutside}
-use Rattle.decimal.specs.Image.{point_byte, sign_bytes, times, leading_run, sign_of}
+use Rattle.decimal.specs.Image.{plus_byte, minus_byte, point_byte, sign_bytes, times, leading_run, sign_of}
 use Rattle.codec.specs.declared.text.Numeral.{Numeral}
 use Rattle.codec.specs.declared.text.Reading.{Reading}
 pub use Rattle.codec.specs.declared.text.TextNumber.{TextNumber}
 use Rattle.codec.specs.Alpha.{blank_byte, exponent_byte, zero_byte, digit_bytes}
 
--- The form: blanks, an optional sign, a numeral, blanks. A numeral is 1 to 13 digits with at most one point before, among or after them,
--- optionally E with an optional sign and one or two digits.
+-- The form: blanks, an optional sign with blanks behind it, a numeral, blanks. A numeral is 1 to 13 digits with at most one point before,
+-- among or after them, optionally E with an optional sign and one or two digits.
+
+-- no sign, or one and the count of blanks behind it. Document 02, (v): "Blanks may now stand between the sign and the first digit or point ..
+-- nowhere else inside"
+pub data SignPart : Type 0 where
+  no_sign : SignPart
+  plus_sign : ℕ → SignPart
+  minus_sign : ℕ → SignPart
 
 -- no point, or a point and the digits behind it
 pub data PointPart : Type 0 where
@@ -32,10 +39,10 @@ pub record NumeralParts : Type 0 where
   pub fraction : PointPart
   pub power : ExponentPart
 
--- the parts of a text number: the count of blanks, the sign, the numeral, the count of blanks; the sign Unsigned is no sign
+-- the parts of a text number: the count of blanks, the sign and the blanks behind it, the numeral, the count of blanks
 pub record TextParts : Type 0 where
   pub before : ℕ
-  pub sign : Sign
+  pub sign : SignPart
   pub numeral : NumeralParts
   pub behind : ℕ
 
@@ -59,9 +66,15 @@ power_bytes (exponent sign ds) = exponent_byte ∷ (sign_bytes sign ++ digit_byt
 unfoldable pub numeral_bytes : NumeralParts → List ℕ
 numeral_bytes u = digit_bytes u.integer ++ (point_bytes u.fraction ++ power_bytes u.power)
 
+-- the bytes of a sign and of the blanks behind it
+unfoldable pub sign_part_bytes : SignPart → List ℕ
+sign_part_bytes no_sign = []
+sign_part_bytes (plus_sign blanks) = plus_byte ∷ times blanks blank_byte
+sign_part_bytes (minus_sign blanks) = minus_byte ∷ times blanks blank_byte
+
 -- the text of the parts
 unfoldable pub text_bytes : TextParts → List ℕ
-text_bytes t = times t.before blank_byte ++ (sign_bytes t.sign ++ (numeral_bytes t.numeral ++ times t.behind blank_byte))
+text_bytes t = times t.before blank_byte ++ (sign_part_bytes t.sign ++ (numeral_bytes t.numeral ++ times t.behind blank_byte))
 
 -- one or two digits of an exponent
 unfoldable pub PowerLegal : ExponentPart → Type 0
@@ -80,12 +93,22 @@ pub record HasForm (bytes : List ℕ) (t : TextParts) : Type 0 where
   pub legal : Legal t.numeral
   pub written : bytes ≡ text_bytes t
 
+-- bytes have the form of a text number
+abbrev pub IsText : List ℕ → Type 0
+IsText bytes = (t : TextParts) × HasForm bytes t
+
 -- The value, in whole numbers: the digits × 10^exponent / 10^(digits behind the point).
 
 unfoldable pub is_minus : Sign → Bool
 is_minus Unsigned = false
 is_minus Plus = false
 is_minus Minus = true
+
+-- a minus is written; the blanks behind it play no part
+unfoldable pub has_minus : SignPart → Bool
+has_minus no_sign = false
+has_minus (plus_sign blanks) = false
+has_minus (minus_sign blanks) = true
 
 -- the exponent plus exponentLimit
 unfoldable pub power_value : ExponentPart → ℕ
@@ -100,14 +123,19 @@ numeral_value minus u =
 
 -- the number of a text
 unfoldable pub text_value : TextParts → Answer Number
-text_value t = numeral_value (is_minus t.sign) t.numeral
+text_value t = numeral_value (has_minus t.sign) t.numeral
 
 -- The longest beginning that has the form.
 
-pub record LongestForm (bytes : List ℕ) (size : ℕ) : Type 0 where
+-- of the beginnings of bytes that are of a kind the longest has this length; 0 where there is none
+pub record LongestOf (Kind : List ℕ → Type 0) (bytes : List ℕ) (size : ℕ) : Type 0 where
   pub inside : size ≤ length bytes
-  pub has_form : (size ≡ 0 → ⊥) → (t : TextParts) × HasForm (take size bytes) t
-  pub longest : (n : ℕ) (t : TextParts) → n ≤ length bytes → HasForm (take n bytes) t → n ≤ size
+  pub is : (size ≡ 0 → ⊥) → Kind (take size bytes)
+  pub longest : (n : ℕ) → n ≤ length bytes → Kind (take n bytes) → n ≤ size
+
+-- of those that have the form of a text number
+abbrev pub LongestForm : List ℕ → ℕ → Type 0
+LongestForm bytes size = LongestOf IsText bytes size
 
 -- Reading it: each part takes as many bytes as it can.
 
@@ -131,6 +159,19 @@ sign_in (b ∷ bs) = sign_of b
 
 abbrev pub sign_length : Sign → ℕ
 sign_length s = length (sign_bytes s)
+
+-- a sign and so many blanks behind it; where there is no sign there are no blanks either
+unfoldable pub sign_part : Sign → ℕ → SignPart
+sign_part Unsigned blanks = no_sign
+sign_part Plus blanks = plus_sign blanks
+sign_part Minus blanks = minus_sign blanks
+
+-- the sign that bytes begin with, and the blanks behind it
+unfoldable pub sign_part_in : List ℕ → SignPart
+sign_part_in bytes = sign_part (sign_in bytes) (blanks_in (drop (sign_length (sign_in bytes)) bytes))
+
+abbrev pub sign_part_length : SignPart → ℕ
+sign_part_length s = length (sign_part_bytes s)
 
 -- the point that bytes begin with, and at most so many digits behind it
 unfoldable pub point_in : ℕ → List ℕ → PointPart
@@ -160,8 +201,8 @@ unfoldable pub parts_in : List ℕ → TextParts
 parts_in bytes =
     let before : ℕ = blanks_in bytes in
     let signed : List ℕ = drop before bytes in
-    let sign : Sign = sign_in signed in
-    let unsigned : List ℕ = drop (sign_length sign) signed in
+    let sign : SignPart = sign_part_in signed in
+    let unsigned : List ℕ = drop (sign_part_length sign) signed in
     let numeral : NumeralParts = numeral_in unsigned in
     let behind : ℕ = blanks_in (drop (length (numeral_bytes numeral)) unsigned) in
     record { before = before; sign = sign; numeral = numeral; behind = behind }
@@ -208,7 +249,7 @@ read_text bytes =
 -- a number is that of a text: in normal form, with its magnitude, minus exactly where a minus is written and the digits are not all zero
 abbrev pub IsNumberOf : TextParts → Number → Type 0
 IsNumberOf t n =
-    IsScaled (is_minus t.sign) (value_of (all_digits_of t.numeral)) (power_value t.numeral.power)
+    IsScaled (has_minus t.sign) (value_of (all_digits_of t.numeral)) (power_value t.numeral.power)
     (exponent_limit + length (fraction_digits t.numeral.fraction)) n
 
 -- e is outside its limits: the magnitude is not zero, and below 10^−99 or at least 10^100
@@ -272,6 +313,11 @@ DigitsFit start most = (start + 1) * 10 ^ most ≤ 10 ^ held_digits
 -- the value of digits that stand behind a value
 abbrev pub behind_value : ℕ → List ℕ → ℕ
 behind_value start ds = start * 10 ^ length ds + value_of ds
+
+-- the sign that bytes begin with and the blanks behind it: whether it is a minus, and the count of the bytes
+pub record SignFound (bytes : List ℕ) (minus : Bool) (used : ℕ) : Type 0 where
+  pub valued : minus ≡ has_minus (sign_part_in bytes)
+  pub spanned : used ≡ sign_part_length (sign_part_in bytes)
 
 -- the digits that bytes begin with, at most so many: their count, and the value of them behind a value
 pub record RunFound (bytes : List ℕ) (most start value count : ℕ) : Type 0 where

@@ -1,5 +1,5 @@
 // Text numbers: the legal length of a text, reading the number that a text begins with, and converting a whole text (document 01: Alpha
-// text, second paragraph; document 02, (i)).
+// text, second paragraph; document 02, (i) and (v)).
 ghost use Rattle.std.specs.Prelude.{◌≡◌};
 ghost use Rattle.decimal.specs.Answer.{meaning};
 ghost use Rattle.codec.specs.Text.{
@@ -8,6 +8,7 @@ ghost use Rattle.codec.specs.Text.{
   convert_text,
   sign_in,
   DigitsFit,
+  SignFound,
   RunFound,
   FractionFound,
   PowerFound,
@@ -50,14 +51,22 @@ pub(crate) const NO_READING: Reading = Reading {
     number: Err(NO_NUMBER),
 };
 
+// In the next and in those of a point and an exponent no byte used says that there is nothing: what stands behind it is then at the same
+// place, with no case of its own.
+
+// A sign and the blanks behind it, or nothing: whether it is a minus, and the bytes used.
+#[derive(Clone, Copy)]
+struct SpacedSign {
+    minus: bool,
+    used: usize,
+}
+
 // Digits that were read, as a whole number, and how many they are.
 #[derive(Clone, Copy)]
 struct DigitRun {
     value: u64,
     count: usize,
 }
-
-// In the next two no byte used says that there is nothing: what stands behind it is then at the same place, with no case of its own.
 
 // A point and digits behind it, or nothing: the whole number that all digits now make, the digits behind the point, the bytes used.
 #[derive(Clone, Copy)]
@@ -102,6 +111,24 @@ fn is_minus(sign: Sign) -> bool
     ensures { result ≡ is_minus sign }
 {
     sign == Sign::Minus
+}
+
+// The sign that a text begins with and the blanks behind it; nothing where there is no sign.
+#[tactic(auto, using(decimal::proofs::StepLaws::run_inside))]
+fn leading_spaced_sign(text: &[u8]) -> SpacedSign
+    ensures { SignFound text.now result.minus result.used }
+{
+    let sign = leading_sign(text);
+    let signs = sign_count(sign);
+    let blanks = if signs == 0 {
+        0
+    } else {
+        leading_run(&text[signs..], b' ')
+    };
+    SpacedSign {
+        minus: is_minus(sign),
+        used: signs + blanks,
+    }
 }
 
 // At most so many digits that a text begins with: their count, and the value of start with these digits behind it.
@@ -190,20 +217,19 @@ pub(crate) fn read_text(text: &[u8]) -> Reading
 {
     let before = leading_run(text, b' ');
     let signed = &text[before..];
-    let sign = leading_sign(signed);
-    let signs = sign_count(sign);
-    let unsigned = &signed[signs..];
+    let sign = leading_spaced_sign(signed);
+    let unsigned = &signed[sign.used..];
     let numeral = leading_numeral(unsigned);
     if numeral.count == 0 {
         return NO_READING;
     }
-    let end = before + signs + numeral.used;
+    let end = before + sign.used + numeral.used;
     let used = end + leading_run(&unsigned[numeral.used..], b' ');
     let up = numeral.up as u16;
     let down = (EXPONENT_LIMIT + numeral.places) as u16;
     Reading {
         used,
-        number: Number::from_scaled(is_minus(sign), numeral.value, up, down, 0),
+        number: Number::from_scaled(sign.minus, numeral.value, up, down, 0),
     }
 }
 

@@ -22,8 +22,8 @@ use Rattle.decimal.proofs.TruncationLaws.{truncation_fit}
 use Rattle.decimal.proofs.KeptLaws.{truncates_to_itself}
 use Rattle.codec.specs.Packing.{exponent_size}
 use Rattle.codec.specs.Alpha.{exponent_byte, digit_bytes, sign_text, fraction_text, exponent_text, alpha_text}
-use Rattle.codec.specs.Text.{TextParts, HasForm, fraction_digits, all_digits_of, point_bytes, power_bytes, numeral_bytes, text_bytes, is_minus, power_value, text_value, convert_text}
-use Rattle.codec.proofs.PartLaws.{digits_right}
+use Rattle.codec.specs.Text.{TextParts, HasForm, fraction_digits, all_digits_of, point_bytes, power_bytes, numeral_bytes, text_bytes, has_minus, power_value, text_value, sign_part, convert_text}
+use Rattle.codec.proofs.PartLaws.{digits_right, sign_alone}
 use Rattle.codec.proofs.FormLaws.{converts_form}
 use Rattle.codec.proofs.AlphaForm.{alpha_sign, alpha_point, alpha_power, alpha_parts, alpha_form, alpha_back}
 use Rattle.records.specs.Scanning.{Field, IsField, run_bytes, total, field_bytes}
@@ -41,7 +41,7 @@ unfoldable pub short_parts : Image → Truncated → List ℕ → TextParts
 short_parts im t ds =
     record {
       before = 0;
-      sign = alpha_sign im.sign t.negative;
+      sign = sign_part (alpha_sign im.sign t.negative) 0;
       numeral = record { integer = ds; fraction = alpha_point im.fraction t.whole; power = alpha_power im.exponential t };
       behind = 0;
     }
@@ -55,7 +55,7 @@ short_bytes im t ds =
 -- they are the text of the parts
 short_bytes_lem : (im : Image) (t : Truncated) (ds : List ℕ) → short_bytes im t ds ≡ text_bytes (short_parts im t ds)
 unfolding short_bytes numeral_bytes text_bytes short_parts times
-short_bytes_lem im t ds = rw append-nil
+short_bytes_lem im t ds = rw (sign_alone (alpha_sign im.sign t.negative), append-nil)
 
 -- bytes are such a text: some zeros at the front of the digits before the point are left out, but not all digits there
 pub record Short (im : Image) (t : Truncated) (bytes : List ℕ) : Type 0 where
@@ -126,7 +126,7 @@ short_value {im} {t} s =
     let parts = short_parts im t s.digits in
     let value : value_of (all_digits_of parts.numeral) ≡ value_of (all_digits_of (alpha_parts im t).numeral) =
     sym (ap value_of (short_digits s) ∙ zeros_value s.count (all_digits_of parts.numeral)) in
-    ap (λ (v : ℕ). scaled_number 0 (is_minus parts.sign) v (power_value parts.numeral.power) (exponent_limit + length (fraction_digits parts.numeral.fraction))) value
+    ap (λ (v : ℕ). scaled_number 0 (has_minus parts.sign) v (power_value parts.numeral.power) (exponent_limit + length (fraction_digits parts.numeral.fraction))) value
 
 -- so it converts to the truncation
 pub short_back : {im : Image} {t : Truncated} {bytes : List ℕ} → Short im t bytes → (n : Number) → truncation 0 im n ≡ done t

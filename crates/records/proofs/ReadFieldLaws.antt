@@ -19,8 +19,9 @@ use Rattle.decimal.specs.Answer.{refused, pick}
 use Rattle.decimal.specs.Digits.{precision}
 use Rattle.decimal.specs.Image.{point_byte, sign_bytes, times}
 use Rattle.codec.specs.Alpha.{blank_byte, digit_bytes}
-use Rattle.codec.specs.Text.{PointPart, no_point, point, ExponentPart, no_exponent, exponent, TextParts, HasForm}
-use Rattle.codec.specs.Text.{fraction_digits, point_bytes, power_bytes, text_bytes, PowerLegal, sign_length}
+use Rattle.codec.specs.Text.{SignPart, no_sign, plus_sign, minus_sign, PointPart, no_point, point, ExponentPart, no_exponent, exponent, TextParts, HasForm}
+use Rattle.codec.specs.Text.{fraction_digits, sign_part_bytes, point_bytes, power_bytes, text_bytes, PowerLegal, sign_length, sign_part_length}
+use Rattle.decimal.proofs.ImageLaws.{times_length}
 use Rattle.codec.proofs.AlphaLaws.{digit_bytes_length}
 use Rattle.codec.proofs.TextLaws.{numeral_length, text_length_lem}
 use Rattle.codec.proofs.FormLaws.{converts_none}
@@ -57,8 +58,8 @@ unfolding times byte_count
 count_times zero = refl
 count_times (suc n) = ap suc (count_times n)
 
--- a text has the blanks before it and behind it
-count_text : (t : TextParts) → t.before + t.behind ≤ blank_count (text_bytes t)
+-- a text has the blanks before it, behind its sign and behind it
+count_text : (t : TextParts) → t.before + (blank_count (sign_part_bytes t.sign) + t.behind) ≤ blank_count (text_bytes t)
 unfolding text_bytes
 count_text t = simp (count_append, count_times) (omega arith)
 
@@ -93,6 +94,13 @@ sign_short Unsigned = omega arith
 sign_short Plus = omega arith
 sign_short Minus = omega arith
 
+-- with blanks behind it, at most one byte more than the blanks
+sign_part_short : (s : SignPart) → sign_part_length s ≤ 1 + blank_count (sign_part_bytes s)
+unfolding sign_part_bytes byte_count
+sign_part_short no_sign = omega arith
+sign_part_short (plus_sign n) = omega (arith, times_length n blank_byte, count_times n)
+sign_part_short (minus_sign n) = omega (arith, times_length n blank_byte, count_times n)
+
 -- a point and its digits have at most one byte more than the digits
 point_short : (f : PointPart) → length (point_bytes f) ≤ 1 + length (fraction_digits f)
 unfolding fraction_digits point_bytes
@@ -121,7 +129,7 @@ form_short {bytes} {t} form none =
       ap length form.written,
       text_length_lem t,
       numeral_length u,
-      sign_short t.sign,
+      sign_part_short t.sign,
       point_short u.fraction,
       power_short u.power form.legal.powers,
       length-append u.integer (fraction_digits u.fraction),

@@ -13,7 +13,7 @@ use Rattle.decimal.specs.declared.image.Sign.TheVariants.{Unsigned, Plus, Minus}
 use Rattle.decimal.specs.Answer.{refused, pick}
 use Rattle.decimal.specs.Image.{plus_byte, minus_byte, point_byte, comma_byte, sign_bytes, times}
 use Rattle.codec.specs.Alpha.{blank_byte, zero_byte, exponent_byte, digit_bytes}
-use Rattle.codec.specs.Text.{PointPart, no_point, point, ExponentPart, no_exponent, exponent, TextParts, point_bytes, power_bytes, numeral_bytes, text_bytes}
+use Rattle.codec.specs.Text.{SignPart, no_sign, plus_sign, minus_sign, PointPart, no_point, point, ExponentPart, no_exponent, exponent, TextParts, sign_part_bytes, point_bytes, power_bytes, numeral_bytes, text_bytes}
 use Rattle.codec.proofs.FormLaws.{converts_none}
 use Rattle.records.specs.declared.marks.Marks.{Marks}
 use Rattle.records.specs.Marks.{no_text_byte, is_dropped, read_byte, without_marks}
@@ -48,6 +48,13 @@ module _ {x : ℕ} (f : Foreign x) where
   none_blanks zero = refl
   none_blanks (suc n) = rw (ne_eqb blank_byte x (λ e. f.no_blank (sym e))) (none_blanks n)
 
+  -- no sign and no blank behind it
+  none_sign_part : (s : SignPart) → byte_count x (sign_part_bytes s) ≡ 0
+  unfolding byte_count sign_part_bytes
+  none_sign_part no_sign = refl
+  none_sign_part (plus_sign n) = rw (ne_eqb plus_byte x (λ e. f.no_plus (sym e))) (none_blanks n)
+  none_sign_part (minus_sign n) = rw (ne_eqb minus_byte x (λ e. f.no_minus (sym e))) (none_blanks n)
+
   -- no point
   none_point : (p : PointPart) → byte_count x (point_bytes p) ≡ 0
   unfolding byte_count point_bytes
@@ -69,7 +76,7 @@ module _ {x : ℕ} (f : Foreign x) where
   none_text t =
       let u = t.numeral in
       simp (count_append x)
-      (omega (arith, none_blanks t.before, none_sign t.sign, none_digits u.integer, none_point u.fraction, none_power u.power, none_blanks t.behind))
+      (omega (arith, none_blanks t.before, none_sign_part t.sign, none_digits u.integer, none_point u.fraction, none_power u.power, none_blanks t.behind))
 
 -- a byte that is kept stands among those that are left
 count_more : (x b : ℕ) (bs : List ℕ) → byte_count x bs ≤ byte_count x (b ∷ bs)

@@ -140,7 +140,32 @@ fn remarks(out: &mut impl Write) -> io::Result<()> {
     read_row(out, b"1 2")?;
     read_row(out, b"-")?;
     read_row(out, b"12345678901234")?;
-    long_row(out)
+    long_row(out, b' ')
+}
+
+// Document 02, (v): blanks behind the sign, and in other places inside.
+fn spaced(out: &mut impl Write) -> io::Result<()> {
+    read_row(out, b"- 12.5")?;
+    read_row(out, b"- .5")?;
+    read_row(out, b"+   7 ")?;
+    read_row(out, b" -  3E2")?;
+    read_row(out, b"- 0")?;
+    read_row(out, b"- 12.5 torn")?;
+    read_row(out, b"- 12345678901234")?;
+    read_row(out, b"- 12E99")?;
+    read_row(out, b"- 12E99 torn")?;
+    // No digit or point behind the blanks.
+    read_row(out, b"- ")?;
+    read_row(out, b"- -1")?;
+    read_row(out, b"- .")?;
+    // Blanks behind E and its sign, about the point, and between two numbers.
+    read_row(out, b"1E- 5")?;
+    read_row(out, b"1E 5")?;
+    read_row(out, b"1. 5")?;
+    read_row(out, b"1 .5")?;
+    read_row(out, b". 5")?;
+    read_row(out, b"12 - 15")?;
+    long_row(out, b'-')
 }
 
 // Document 02, (ii): what truncation cuts off.
@@ -350,6 +375,7 @@ fn print_rows(out: &mut impl Write) -> io::Result<()> {
     cut_off(out)?;
     found(out)?;
     split(out)?;
+    spaced(out)?;
     known_lines(out)?;
     printed_lines(out)?;
     earlier_lines(out)?;

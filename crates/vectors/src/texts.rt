@@ -3,8 +3,8 @@ use crate::shown::{print_answer, print_number, print_quoted};
 use std::io;
 use std::io::Write;
 
-// The blanks of a long text, behind which a digit stands.
-const BLANKS: usize = 4095;
+// The blanks of a long text, before which a byte stands and behind which a digit.
+const BLANKS: usize = 4094;
 
 // Writes a row: a text between quotes, its legal length, and its number or the refusal.
 pub(crate) fn text_row(out: &mut impl Write, text: &[u8]) -> io::Result<()> {
@@ -36,10 +36,12 @@ pub(crate) fn read_row(out: &mut impl Write, text: &[u8]) -> io::Result<()> {
     print_read(out, text)
 }
 
-// Writes the row of a text of BLANKS blanks and a digit.
-pub(crate) fn long_row(out: &mut impl Write) -> io::Result<()> {
-    let mut text = [b' '; BLANKS + 1];
-    text[BLANKS] = b'7';
-    write!(out, "{BLANKS} blanks and 7")?;
+// Writes the row of a long text: a byte, BLANKS blanks and a digit.
+pub(crate) fn long_row(out: &mut impl Write, first: u8) -> io::Result<()> {
+    let mut text = [b' '; BLANKS + 2];
+    text[0] = first;
+    text[BLANKS + 1] = b'7';
+    print_quoted(out, &[first])?;
+    write!(out, ", {BLANKS} blanks and 7")?;
     print_read(out, &text)
 }

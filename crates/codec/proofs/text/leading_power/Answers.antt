@@ -10,7 +10,7 @@ pub returns-in_default-2 : goal.returns-in_default-2
 returns-in_default-2 c = power_none (power_absent c.args.text.now (λ h e. omega arith))
 
 pub slice_bounds-digit_run-count : goal.slice_bounds-digit_run-count
-slice_bounds-digit_run-count c = (signs_found (onward 1 c.args.text.now) c.leading_sign-sign.ensures c.sign_count-signs.ensures).1
+slice_bounds-digit_run-count c = omega (arith, signs_found (onward 1 c.args.text.now) c.leading_sign-sign.ensures c.sign_count-signs.ensures)
 
 pub slice_bounds-digit_run-start : goal.slice_bounds-digit_run-start
 slice_bounds-digit_run-start c = omega (arith, signs_found (onward 1 c.args.text.now) c.leading_sign-sign.ensures c.sign_count-signs.ensures)

@@ -1,7 +1,7 @@
 -- `read_text` meets its contract: each slice begins where the next part of the text does, and the parts make the whole. Assumes nothing.
 use Rattle.std.proofs.Common.{arith}
 use Rattle.decimal.proofs.StepLaws.{run_inside}
-use Rattle.codec.proofs.TextLaws.{onward, signs_found, numeral_inside, read_none, read_some}
+use Rattle.codec.proofs.TextLaws.{onward, sign_inside, numeral_inside, read_none, read_some}
 use Rattle.codec.proofs.text.read_text.Goals as goal
 
 pub slice_bounds-signed-count : goal.slice_bounds-signed-count
@@ -11,19 +11,19 @@ pub slice_bounds-signed-start : goal.slice_bounds-signed-start
 slice_bounds-signed-start c = omega (arith, run_inside 32 c.args.text.now)
 
 pub slice_bounds-unsigned-count : goal.slice_bounds-unsigned-count
-slice_bounds-unsigned-count c = (signs_found (onward c.leading_run-before.result c.args.text.now) c.leading_sign-sign.ensures c.sign_count-signs.ensures).1
+slice_bounds-unsigned-count c = sign_inside c.leading_spaced_sign-sign.ensures
 
 pub slice_bounds-unsigned-start : goal.slice_bounds-unsigned-start
 slice_bounds-unsigned-start c =
     omega (
       arith,
       run_inside 32 c.args.text.now,
-      signs_found (onward c.leading_run-before.result c.args.text.now) c.leading_sign-sign.ensures c.sign_count-signs.ensures,
+      sign_inside c.leading_spaced_sign-sign.ensures,
     )
 
 pub returns-then-numeral-eq0 : goal.returns-then-numeral-eq0
 returns-then-numeral-eq0 c =
-    read_none c.args.text.now c.leading_run-before.ensures c.leading_sign-sign.ensures c.sign_count-signs.ensures c.leading_numeral-numeral.ensures
+    read_none c.args.text.now c.leading_run-before.ensures c.leading_spaced_sign-sign.ensures c.leading_numeral-numeral.ensures
     c.if-numeral-eq0.true
 
 pub overflow_add-end : goal.overflow_add-end
@@ -31,7 +31,7 @@ overflow_add-end c =
     omega (
       arith,
       run_inside 32 c.args.text.now,
-      signs_found (onward c.leading_run-before.result c.args.text.now) c.leading_sign-sign.ensures c.sign_count-signs.ensures,
+      sign_inside c.leading_spaced_sign-sign.ensures,
     )
 
 pub overflow_add-end-2 : goal.overflow_add-end-2
@@ -39,7 +39,7 @@ overflow_add-end-2 c =
     omega (
       arith,
       run_inside 32 c.args.text.now,
-      signs_found (onward c.leading_run-before.result c.args.text.now) c.leading_sign-sign.ensures c.sign_count-signs.ensures,
+      sign_inside c.leading_spaced_sign-sign.ensures,
       numeral_inside c.leading_numeral-numeral.ensures,
     )
 
@@ -51,25 +51,24 @@ slice_bounds-leading_run-start c =
     omega (
       arith,
       run_inside 32 c.args.text.now,
-      signs_found (onward c.leading_run-before.result c.args.text.now) c.leading_sign-sign.ensures c.sign_count-signs.ensures,
+      sign_inside c.leading_spaced_sign-sign.ensures,
       numeral_inside c.leading_numeral-numeral.ensures,
     )
 
 pub overflow_add-used : goal.overflow_add-used
 overflow_add-used c =
-    let unsigned = onward c.sign_count-signs.result (onward c.leading_run-before.result c.args.text.now) in
+    let unsigned = onward c.leading_spaced_sign-sign.result.used (onward c.leading_run-before.result c.args.text.now) in
     omega (
       arith,
       run_inside 32 c.args.text.now,
-      signs_found (onward c.leading_run-before.result c.args.text.now) c.leading_sign-sign.ensures c.sign_count-signs.ensures,
+      sign_inside c.leading_spaced_sign-sign.ensures,
       numeral_inside c.leading_numeral-numeral.ensures,
       run_inside 32 (onward c.leading_numeral-numeral.result.used unsigned),
     )
 
 pub returns : goal.returns
 returns c =
-    read_some c.args.text.now c.leading_run-before.ensures c.leading_sign-sign.ensures c.sign_count-signs.ensures c.leading_numeral-numeral.ensures
+    read_some c.args.text.now c.leading_run-before.ensures c.leading_spaced_sign-sign.ensures c.leading_numeral-numeral.ensures
     c.if-numeral-eq0.false
     c.leading_run.ensures
-    c.is_minus.ensures
     c.from_scaled.ensures
