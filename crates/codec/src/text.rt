@@ -212,6 +212,7 @@ fn leading_numeral(text: &[u8]) -> Numeral
 }
 
 // The longest beginning of a text that is a text number, and its number.
+#[tactic(auto, using(decimal::proofs::StepLaws::run_inside, crate::proofs::TextLaws::sign_inside, crate::proofs::TextLaws::read_some))]
 pub(crate) fn read_text(text: &[u8]) -> Reading
     ensures { reading_meaning result ≡ reading_in text.now }
 {

@@ -4,35 +4,10 @@ use Rattle.decimal.proofs.StepLaws.{run_inside}
 use Rattle.codec.proofs.TextLaws.{onward, sign_inside, numeral_inside, read_none, read_some}
 use Rattle.codec.proofs.text.read_text.Goals as goal
 
-pub slice_bounds-signed-count : goal.slice_bounds-signed-count
-slice_bounds-signed-count c = omega (arith, run_inside 32 c.args.text.now)
-
-pub slice_bounds-signed-start : goal.slice_bounds-signed-start
-slice_bounds-signed-start c = omega (arith, run_inside 32 c.args.text.now)
-
-pub slice_bounds-unsigned-count : goal.slice_bounds-unsigned-count
-slice_bounds-unsigned-count c = sign_inside c.leading_spaced_sign-sign.ensures
-
-pub slice_bounds-unsigned-start : goal.slice_bounds-unsigned-start
-slice_bounds-unsigned-start c =
-    omega (
-      arith,
-      run_inside 32 c.args.text.now,
-      sign_inside c.leading_spaced_sign-sign.ensures,
-    )
-
 pub returns-then-numeral-eq0 : goal.returns-then-numeral-eq0
 returns-then-numeral-eq0 c =
     read_none c.args.text.now c.leading_run-before.ensures c.leading_spaced_sign-sign.ensures c.leading_numeral-numeral.ensures
     c.if-numeral-eq0.true
-
-pub overflow_add-end : goal.overflow_add-end
-overflow_add-end c =
-    omega (
-      arith,
-      run_inside 32 c.args.text.now,
-      sign_inside c.leading_spaced_sign-sign.ensures,
-    )
 
 pub overflow_add-end-2 : goal.overflow_add-end-2
 overflow_add-end-2 c =
@@ -65,10 +40,3 @@ overflow_add-used c =
       numeral_inside c.leading_numeral-numeral.ensures,
       run_inside 32 (onward c.leading_numeral-numeral.result.used unsigned),
     )
-
-pub returns : goal.returns
-returns c =
-    read_some c.args.text.now c.leading_run-before.ensures c.leading_spaced_sign-sign.ensures c.leading_numeral-numeral.ensures
-    c.if-numeral-eq0.false
-    c.leading_run.ensures
-    c.from_scaled.ensures
