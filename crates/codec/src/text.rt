@@ -51,8 +51,8 @@ pub(crate) const NO_READING: Reading = Reading {
     number: Err(NO_NUMBER),
 };
 
-// In the next and in those of a point and an exponent no byte used says that there is nothing: what stands behind it is then at the same
-// place, with no case of its own.
+// In SpacedSign, Fraction and Power no byte used says that there is nothing: what stands behind it is then at the same place, with no case
+// of its own.
 
 // A sign and the blanks behind it, or nothing: whether it is a minus, and the bytes used.
 #[derive(Clone, Copy)]

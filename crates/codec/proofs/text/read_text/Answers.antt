@@ -1,7 +1,7 @@
 -- `read_text` meets its contract: each slice begins where the next part of the text does, and the parts make the whole. Assumes nothing.
 use Rattle.std.proofs.Common.{arith}
 use Rattle.decimal.proofs.StepLaws.{run_inside}
-use Rattle.codec.proofs.TextLaws.{onward, sign_inside, numeral_inside, read_none, read_some}
+use Rattle.codec.proofs.TextLaws.{onward, sign_inside, numeral_inside, read_none}
 use Rattle.codec.proofs.text.read_text.Goals as goal
 
 pub returns-then-numeral-eq0 : goal.returns-then-numeral-eq0
