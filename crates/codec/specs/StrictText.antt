@@ -1,6 +1,6 @@
 -- Document 01's form of a text number beside the wider form of document 02, (v), and what the wider form leaves as it was.
 -- (The proofs' StrictTheorem: it holds of all bytes.)
-use Rattle.std.specs.Prelude.{ℕ, ◌+◌, ◌-◌, ◌≤◌, ◌≡◌, List, [], ◌∷◌, ◌++◌, eqb, length, take, drop}
+use Rattle.std.specs.Prelude.{ℕ, suc, ◌+◌, ◌-◌, ◌≤◌, ◌≡◌, List, [], ◌∷◌, ◌++◌, eqb, length, take, drop}
 use Rattle.decimal.specs.declared.image.Sign.{Sign}
 use Rattle.decimal.specs.declared.image.Sign.TheVariants.{Unsigned}
 use Rattle.decimal.specs.declared.number.Number.{Number}
@@ -36,6 +36,12 @@ pub record Spaced (bytes : List ℕ) : Type 0 where
   pub put_in :
       let place : ℕ = form.before + sign_length form.sign in
       bytes ≡ take place text ++ (times blanks blank_byte ++ drop place text)
+
+-- how often a byte stands among bytes. (The proofs' BlankLaws: a text of document 01's form has no blanks but those before it and behind it, and
+-- one of the wider form none but those and the ones behind its sign.)
+unfoldable pub byte_count : ℕ → List ℕ → ℕ
+byte_count x [] = 0
+byte_count x (b ∷ bs) = pick (eqb b x) (suc (byte_count x bs)) (byte_count x bs)
 
 -- the count of blanks behind a sign
 unfoldable pub sign_blanks : SignPart → ℕ

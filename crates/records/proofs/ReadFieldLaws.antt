@@ -6,7 +6,7 @@ use Rattle.std.specs.Iterator.{YieldsThen}
 use Rattle.std.proofs.lemmas.Option.{slice_get_within}
 use Rattle.std.proofs.lemmas.Iterator.{YieldsList}
 use Rattle.std.proofs.lemmas.Iterator.Consumers.{nth_from_yields_List}
-use Prim.Native.Nat.{ℕ, zero, suc, ◌+◌, ◌<◌, ◌≤◌}
+use Prim.Native.Nat.{ℕ, ◌+◌, ◌<◌, ◌≤◌}
 use mathlib.Core.Path.{◌≡◌, refl, ap, sym, ◌∙◌}
 use mathlib.Core.List.{List, [], ◌∷◌, ◌++◌}
 use mathlib.Core.Bool.{Bool, true, false, ◌||◌, false≢true}
@@ -17,12 +17,14 @@ use Rattle.decimal.specs.declared.image.Sign.{Sign}
 use Rattle.decimal.specs.declared.image.Sign.TheVariants.{Unsigned, Plus, Minus}
 use Rattle.decimal.specs.Answer.{refused, pick}
 use Rattle.decimal.specs.Digits.{precision}
-use Rattle.decimal.specs.Image.{point_byte, sign_bytes, times}
+use Rattle.decimal.specs.Image.{point_byte, sign_bytes}
 use Rattle.codec.specs.Alpha.{blank_byte, digit_bytes}
 use Rattle.codec.specs.Text.{SignPart, no_sign, plus_sign, minus_sign, PointPart, no_point, point, ExponentPart, no_exponent, exponent, TextParts, HasForm}
-use Rattle.codec.specs.Text.{fraction_digits, sign_part_bytes, point_bytes, power_bytes, text_bytes, PowerLegal, sign_length, sign_part_length}
+use Rattle.codec.specs.Text.{fraction_digits, sign_part_bytes, point_bytes, power_bytes, PowerLegal, sign_length, sign_part_length}
 use Rattle.decimal.proofs.ImageLaws.{times_length}
+use Rattle.codec.specs.StrictText.{byte_count, sign_blanks}
 use Rattle.codec.proofs.AlphaLaws.{digit_bytes_length}
+use Rattle.codec.proofs.BlankLaws.{form_blanks}
 use Rattle.codec.proofs.TextLaws.{numeral_length, text_length_lem}
 use Rattle.codec.proofs.FormLaws.{converts_none}
 use Rattle.records.specs.declared.marks.Marks.{Marks}
@@ -31,37 +33,9 @@ use Rattle.records.specs.Fields.{read_marked}
 
 -- A text number with no blank is short.
 
--- how often a byte stands among bytes
-unfoldable pub byte_count : ℕ → List ℕ → ℕ
-byte_count x [] = 0
-byte_count x (b ∷ bs) = pick (eqb b x) (suc (byte_count x bs)) (byte_count x bs)
-
--- in two parts
-pub count_append : (x : ℕ) (xs ys : List ℕ) → byte_count x (xs ++ ys) ≡ byte_count x xs + byte_count x ys
-unfolding byte_count
-count_append x [] ys = omega arith
-count_append x (b ∷ bs) ys = go (eqb b x) (count_append x bs ys)
-  where
-    go : (t : Bool)
-        → byte_count x (bs ++ ys) ≡ byte_count x bs + byte_count x ys
-        → pick t (suc (byte_count x (bs ++ ys))) (byte_count x (bs ++ ys)) ≡ pick t (suc (byte_count x bs)) (byte_count x bs) + byte_count x ys
-    go true h = omega arith
-    go false h = h
-
 -- how many bytes are blanks
 abbrev blank_count : List ℕ → ℕ
 blank_count bytes = byte_count blank_byte bytes
-
--- blanks alone
-count_times : (n : ℕ) → blank_count (times n blank_byte) ≡ n
-unfolding times byte_count
-count_times zero = refl
-count_times (suc n) = ap suc (count_times n)
-
--- a text has the blanks before it, behind its sign and behind it
-count_text : (t : TextParts) → t.before + (blank_count (sign_part_bytes t.sign) + t.behind) ≤ blank_count (text_bytes t)
-unfolding text_bytes
-count_text t = simp (count_append, count_times) (omega arith)
 
 -- what is read of a byte that is kept is no blank
 kept_solid : (m : Marks) (b : ℕ) → is_dropped m b ≡ false → eqb (read_byte m b) blank_byte ≡ false
@@ -95,11 +69,11 @@ sign_short Plus = omega arith
 sign_short Minus = omega arith
 
 -- with blanks behind it, at most one byte more than the blanks
-sign_part_short : (s : SignPart) → sign_part_length s ≤ 1 + blank_count (sign_part_bytes s)
-unfolding sign_part_bytes byte_count
+sign_part_short : (s : SignPart) → sign_part_length s ≤ 1 + sign_blanks s
+unfolding sign_part_bytes sign_blanks
 sign_part_short no_sign = omega arith
-sign_part_short (plus_sign n) = omega (arith, times_length n blank_byte, count_times n)
-sign_part_short (minus_sign n) = omega (arith, times_length n blank_byte, count_times n)
+sign_part_short (plus_sign n) = omega (arith, times_length n blank_byte)
+sign_part_short (minus_sign n) = omega (arith, times_length n blank_byte)
 
 -- a point and its digits have at most one byte more than the digits
 point_short : (f : PointPart) → length (point_bytes f) ≤ 1 + length (fraction_digits f)
@@ -124,8 +98,7 @@ form_short {bytes} {t} form none =
     let u = t.numeral in
     omega (
       arith,
-      ap blank_count form.written,
-      count_text t,
+      form_blanks form,
       ap length form.written,
       text_length_lem t,
       numeral_length u,
