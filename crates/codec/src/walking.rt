@@ -45,8 +45,8 @@ fn read_at(text: &[u8], place: usize) -> Reading
 }
 
 // The next place, from one on, where a text number begins; the text's end where there is none, a place past the end as it is.
-// A text number begins at blanks exactly where one begins behind them, so a run of blanks is stepped over as a whole; one that stands behind
-// a sign was read once before.
+// A text number begins at blanks exactly where one begins behind them, so a run of blanks is stepped over as a whole; one that stands
+// behind a sign was read once before.
 // The loop goes by places, of which one is the answer; the steps have different lengths.
 #[tactic(auto, using(decimal::proofs::StepLaws::run_inside, crate::proofs::WalkLaws::skip_ends), unfolding(crate::specs::Walking::number_place))]
 pub fn next_number_place(text: &[u8], from: usize) -> usize
