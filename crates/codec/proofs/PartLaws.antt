@@ -13,13 +13,13 @@ use Rattle.decimal.specs.declared.image.Sign.{Sign}
 use Rattle.decimal.specs.declared.image.Sign.TheVariants.{Unsigned, Plus, Minus}
 use Rattle.decimal.specs.Answer.{pick}
 use Rattle.decimal.specs.Digits.{Digits}
-use Rattle.decimal.specs.Image.{plus_byte, minus_byte, point_byte, sign_bytes, times}
+use Rattle.decimal.specs.Image.{leading_sign, plus_byte, minus_byte, point_byte, sign_bytes, times}
 use Rattle.decimal.proofs.BoolLaws.{and_true}
 use Rattle.decimal.proofs.ImageLaws.{times_length}
 use Rattle.codec.specs.Alpha.{blank_byte, exponent_byte, zero_byte, digit_bytes}
 use Rattle.codec.specs.Text.{SignPart, no_sign, plus_sign, minus_sign, sign_part_bytes, is_minus, has_minus, sign_part, sign_part_in, sign_part_length}
 use Rattle.codec.specs.Text.{PointPart, no_point, point, ExponentPart, no_exponent, exponent, fraction_digits, point_bytes, power_bytes, PowerLegal}
-use Rattle.codec.specs.Text.{blanks_in, is_digit, digits_in, sign_in, sign_length, point_in, power_of, power_in}
+use Rattle.codec.specs.Text.{blanks_in, is_digit, digits_in, sign_length, point_in, power_of, power_in}
 use Rattle.codec.proofs.AlphaLaws.{digit_bytes_length}
 
 -- Digits in a list of two parts.
@@ -106,12 +106,12 @@ stops_byte b r h other = record { no_digits = λ most. digits_stop most b r h; n
 
 -- A text's digits begin with neither a sign nor a blank.
 pub record Starts (r : List ℕ) : Type 0 where
-  pub no_sign : sign_in r ≡ Unsigned
+  pub no_sign : leading_sign r ≡ Unsigned
   pub no_blank : blanks_in r ≡ 0
 
 -- a digit
 starts_digit : (d : ℕ) (r : List ℕ) → Starts ((zero_byte + d) ∷ r)
-unfolding sign_in
+unfolding leading_sign
 starts_digit d r =
     record {
       no_sign = rw (ne_eqb (zero_byte + d) plus_byte (λ e. omega arith), ne_eqb (zero_byte + d) minus_byte (λ e. omega arith));
@@ -126,7 +126,7 @@ starts_digits (d ∷ ds) r h = starts_digit d _
 
 -- a point
 pub starts_point : (ds r : List ℕ) → Starts (point_bytes (point ds) ++ r)
-unfolding point_bytes sign_in
+unfolding point_bytes leading_sign
 starts_point ds r = record { no_sign = refl; no_blank = refl }
 
 -- the digits and the point of a text that has some digit
@@ -137,8 +137,8 @@ starts_body [] (point fs) r h = starts_point fs r
 starts_body (d ∷ ds) f r h = starts_digit d _
 
 -- a sign before such bytes is read
-pub sign_go : (sign : Sign) (r : List ℕ) → Starts r → sign_in (sign_bytes sign ++ r) ≡ sign
-unfolding sign_in sign_bytes
+pub sign_go : (sign : Sign) (r : List ℕ) → Starts r → leading_sign (sign_bytes sign ++ r) ≡ sign
+unfolding leading_sign sign_bytes
 sign_go Unsigned r h = h.no_sign
 sign_go Plus r h = refl
 sign_go Minus r h = refl
@@ -159,7 +159,7 @@ part_minus Minus blanks = refl
 
 -- a sign and blanks before such bytes are read
 pub sign_part_go : (sign : SignPart) (r : List ℕ) → Starts r → sign_part_in (sign_part_bytes sign ++ r) ≡ sign
-unfolding sign_part_in sign_part_bytes sign_part sign_in sign_bytes
+unfolding sign_part_in sign_part_bytes sign_part leading_sign sign_bytes
 sign_part_go no_sign r h = ap (λ (s : Sign). sign_part s (blanks_in (drop (sign_length s) r))) h.no_sign
 sign_part_go (plus_sign n) r h = ap plus_sign (omega (arith, blanks_go n r, h.no_blank))
 sign_part_go (minus_sign n) r h = ap minus_sign (omega (arith, blanks_go n r, h.no_blank))
@@ -292,8 +292,8 @@ front_sign b bs false true e g = ap (λ (a : ℕ). a ∷ bs) (sym (eqb-true b mi
 front_sign b bs false false e g = refl
 
 -- the sign
-pub sign_read : (bs : List ℕ) → sign_bytes (sign_in bs) ++ drop (sign_length (sign_in bs)) bs ≡ bs
-unfolding sign_in sign_bytes
+pub sign_read : (bs : List ℕ) → sign_bytes (leading_sign bs) ++ drop (sign_length (leading_sign bs)) bs ≡ bs
+unfolding leading_sign sign_bytes
 sign_read [] = refl
 sign_read (b ∷ bs) = front_sign b bs (eqb b plus_byte) (eqb b minus_byte) refl refl
 
@@ -309,8 +309,8 @@ front_spaced Minus bs r n e h = rw (← e, times_length n blank_byte) (ap (λ (l
 pub sign_part_read : (bs : List ℕ) → sign_part_bytes (sign_part_in bs) ++ drop (sign_part_length (sign_part_in bs)) bs ≡ bs
 unfolding sign_part_in
 sign_part_read bs =
-    let r = drop (sign_length (sign_in bs)) bs in
-    front_spaced (sign_in bs) bs r (blanks_in r) (sign_read bs) (blanks_read r)
+    let r = drop (sign_length (leading_sign bs)) bs in
+    front_spaced (leading_sign bs) bs r (blanks_in r) (sign_read bs) (blanks_read r)
 
 -- a point with at most so many digits, or none, at the front of bytes
 pub record PointFronts (most : ℕ) (bs : List ℕ) (f : PointPart) : Type 0 where
@@ -382,7 +382,7 @@ pub power_read : (bs : List ℕ) → PowerFronts bs (power_in bs)
 unfolding power_in
 power_read [] = no_power_front []
 power_read (b ∷ bs) =
-    let sign = sign_in bs in
+    let sign = leading_sign bs in
     let r = drop (sign_length sign) bs in
     front_power b bs (power_of sign (digits_in 2 r)) (eqb b exponent_byte)
     (λ e. behind_e b bs sign (sign_read bs) (digits_in 2 r) (digits_read 2 r) (eqb-true b exponent_byte e))

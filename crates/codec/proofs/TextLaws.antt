@@ -20,7 +20,7 @@ use Rattle.decimal.specs.declared.number.Number.{Number}
 use Rattle.decimal.specs.Answer.{Answer, done, refused, ◌then◌, pick}
 use Rattle.decimal.specs.Digits.{precision, Digits, value_of}
 use Rattle.decimal.specs.Number.{exponent_limit, scaled_number}
-use Rattle.decimal.specs.Image.{point_byte, sign_bytes, sign_of}
+use Rattle.decimal.specs.Image.{leading_sign, point_byte, sign_bytes, sign_of}
 use Rattle.decimal.proofs.AnswerLaws.{then_next, then_refused}
 use Rattle.decimal.proofs.BoolLaws.{and_true, zero_or_not}
 use Rattle.decimal.proofs.PowerLaws.{pow10_add, pow10_suc, pow10_mono, times_ten, times_power}
@@ -29,7 +29,7 @@ use Rattle.decimal.proofs.ImageLaws.{times_length}
 use Rattle.codec.specs.declared.text.Numeral.{Numeral}
 use Rattle.codec.specs.Columns.{sign_count}
 use Rattle.codec.specs.Alpha.{blank_byte, exponent_byte, zero_byte, digit_bytes}
-use Rattle.codec.specs.Text.{PointPart, no_point, point, ExponentPart, no_exponent, exponent, NumeralParts, TextParts, fraction_digits, all_digits_of, sign_part_bytes, point_bytes, power_bytes, numeral_bytes, text_bytes, is_minus, power_value, text_value, blanks_in, is_digit, digits_in, sign_in, sign_length, sign_part, sign_part_in, sign_part_length, point_in, power_of, power_in, numeral_in, parts_in, TextReading, no_reading, reading_of, reading_in, legal_length, TextNumber, read_text, convert_text, held_digits, DigitsFit, behind_value, SignFound, RunFound, FractionFound, PowerFound, NumeralFound}
+use Rattle.codec.specs.Text.{PointPart, no_point, point, ExponentPart, no_exponent, exponent, NumeralParts, TextParts, fraction_digits, all_digits_of, sign_part_bytes, point_bytes, power_bytes, numeral_bytes, text_bytes, is_minus, power_value, text_value, blanks_in, is_digit, digits_in, sign_length, sign_part, sign_part_in, sign_part_length, point_in, power_of, power_in, numeral_in, parts_in, TextReading, no_reading, reading_of, reading_in, legal_length, TextNumber, read_text, convert_text, held_digits, DigitsFit, behind_value, SignFound, RunFound, FractionFound, PowerFound, NumeralFound}
 use Rattle.codec.proofs.AlphaLaws.{digit_bytes_length, sign_bytes_length}
 use Rattle.codec.proofs.PartLaws.{part_minus, sign_part_read}
 
@@ -54,16 +54,10 @@ onward place bytes = take (length bytes - place) (drop place bytes)
 -- What bytes begin with.
 
 -- no sign where there is no byte
-pub sign_none : (text : List ℕ) → length text ≡ 0 → Unsigned ≡ sign_in text
-unfolding sign_in
+pub sign_none : (text : List ℕ) → length text ≡ 0 → Unsigned ≡ leading_sign text
+unfolding leading_sign
 sign_none [] h = refl
 sign_none (b ∷ bs) h = absurd (omega arith)
-
--- the first byte says the sign
-pub sign_some : (text : List ℕ) → 0 < length text → sign_of (get_or text 0 0) ≡ sign_in text
-unfolding sign_in
-sign_some [] h = absurd (omega arith)
-sign_some (b ∷ bs) h = refl
 
 -- no digit behind the end, or where none is asked for
 pub digits_none : (most : ℕ) (bytes : List ℕ) → (length bytes ≡ 0) ⊎ (most ≡ 0) → digits_in most bytes ≡ []
@@ -106,7 +100,7 @@ power_absent (b ∷ bs) h = rw (ne_eqb b exponent_byte (h (omega arith)))
 
 -- E, and what the sign and the digits behind it make
 power_there : (text : List ℕ) → 0 < length text → get_or text 0 0 ≡ exponent_byte
-    → power_in text ≡ power_of (sign_in (drop 1 text)) (digits_in 2 (drop (sign_length (sign_in (drop 1 text))) (drop 1 text)))
+    → power_in text ≡ power_of (leading_sign (drop 1 text)) (digits_in 2 (drop (sign_length (leading_sign (drop 1 text))) (drop 1 text)))
 unfolding power_in
 power_there [] h e = absurd (omega arith)
 power_there (b ∷ bs) h e = rw (eq-eqb b exponent_byte e)
@@ -244,20 +238,20 @@ digits_in_within (suc most) [] = omega arith
 digits_in_within (suc most) (b ∷ bs) = omega (arith, one_more (is_digit b) (b - zero_byte) (digits_in most bs), digits_in_within most bs)
 
 -- a sign is at most one byte
-sign_short : (sign : Sign) → sign_length sign ≤ 1
+pub sign_short : (sign : Sign) → sign_length sign ≤ 1
 unfolding sign_bytes
 sign_short Unsigned = omega arith
 sign_short Plus = omega arith
 sign_short Minus = omega arith
 
 -- the sign is within the bytes
-pub sign_within : (bytes : List ℕ) → sign_length (sign_in bytes) ≤ length bytes
-unfolding sign_bytes sign_in
+pub sign_within : (bytes : List ℕ) → sign_length (leading_sign bytes) ≤ length bytes
+unfolding sign_bytes leading_sign
 sign_within [] = omega arith
 sign_within (b ∷ bs) = omega (arith, sign_short (sign_of b))
 
 -- the code's count of a sign's bytes
-pub signs_found : (bytes : List ℕ) {sign : Sign} {signs : ℕ} → sign ≡ sign_in bytes → signs ≡ sign_count sign
+pub signs_found : (bytes : List ℕ) {sign : Sign} {signs : ℕ} → sign ≡ leading_sign bytes → signs ≡ sign_count sign
     → (signs ≡ sign_length sign) × (signs ≤ length bytes)
 signs_found bytes {sign} said counted =
     let long = counted ∙ sym (sign_bytes_length sign) in
@@ -286,15 +280,15 @@ sign_part_within bytes =
       length-append (sign_part_bytes (sign_part_in bytes)) (drop (sign_part_length (sign_part_in bytes)) bytes),
     )
 
-module _ (bytes : List ℕ) {sign : Sign} {signs : ℕ} (said : sign ≡ sign_in bytes) (counted : signs ≡ sign_count sign) where
+module _ (bytes : List ℕ) {sign : Sign} {signs : ℕ} (said : sign ≡ leading_sign bytes) (counted : signs ≡ sign_count sign) where
   -- where no sign is counted, nothing is used
   pub spaced_none : {minus : Bool} {blanks : ℕ} → minus ≡ is_minus sign → signs ≡ 0 → blanks ≡ 0 → SignFound bytes minus (signs + blanks)
   unfolding sign_part_in
   spaced_none is none bare =
-      let blanks = blanks_in (drop (sign_length (sign_in bytes)) bytes) in
+      let blanks = blanks_in (drop (sign_length (leading_sign bytes)) bytes) in
       record {
-        valued = is ∙ ap is_minus said ∙ sym (part_minus (sign_in bytes) blanks);
-        spanned = omega (arith, bare, part_none (sign_in bytes) blanks (sym (ap sign_count said) ∙ sym counted ∙ none));
+        valued = is ∙ ap is_minus said ∙ sym (part_minus (leading_sign bytes) blanks);
+        spanned = omega (arith, bare, part_none (leading_sign bytes) blanks (sym (ap sign_count said) ∙ sym counted ∙ none));
       }
 
   -- else it and the blanks behind it are
@@ -302,18 +296,18 @@ module _ (bytes : List ℕ) {sign : Sign} {signs : ℕ} (said : sign ≡ sign_in
       → SignFound bytes minus (signs + blanks)
   unfolding sign_part_in
   spaced_some {minus} {blanks} is some run =
-      let size : signs ≡ sign_length (sign_in bytes) = (signs_found bytes said counted).0 ∙ ap sign_length said in
-      let all : blanks ≡ blanks_in (drop (sign_length (sign_in bytes)) bytes) =
+      let size : signs ≡ sign_length (leading_sign bytes) = (signs_found bytes said counted).0 ∙ ap sign_length said in
+      let all : blanks ≡ blanks_in (drop (sign_length (leading_sign bytes)) bytes) =
       run ∙ ap blanks_in (take_rest bytes signs) ∙ ap (λ (n : ℕ). blanks_in (drop n bytes)) size in
-      let count : sign_count (sign_in bytes) ≡ signs = sym (counted ∙ ap sign_count said) in
+      let count : sign_count (leading_sign bytes) ≡ signs = sym (counted ∙ ap sign_count said) in
       record {
-        valued = is ∙ ap is_minus said ∙ sym (part_minus (sign_in bytes) (blanks_in (drop (sign_length (sign_in bytes)) bytes)));
+        valued = is ∙ ap is_minus said ∙ sym (part_minus (leading_sign bytes) (blanks_in (drop (sign_length (leading_sign bytes)) bytes)));
         spanned =
             omega (
               arith,
               all,
               count,
-              part_some (sign_in bytes) (blanks_in (drop (sign_length (sign_in bytes)) bytes)) (λ e. some (sym count ∙ e)),
+              part_some (leading_sign bytes) (blanks_in (drop (sign_length (leading_sign bytes)) bytes)) (λ e. some (sym count ∙ e)),
             );
       }
 
@@ -358,7 +352,7 @@ pub power_within : (bytes : List ℕ) → length (power_bytes (power_in bytes)) 
 unfolding power_in power_bytes
 power_within [] = omega arith
 power_within (b ∷ bs) =
-    let sign = sign_in bs in
+    let sign = leading_sign bs in
     let rest = drop (sign_length sign) bs in
     omega (arith, power_short (eqb b exponent_byte) sign (digits_in 2 rest), digits_in_within 2 rest, length-drop (sign_length sign) bs, sign_within bs)
 
@@ -458,7 +452,7 @@ pub power_inside : {bytes : List ℕ} {up used : ℕ} → PowerFound bytes up us
 power_inside {bytes} p = omega (arith, p.spanned, power_within bytes)
 
 module _ (text : List ℕ) (there : 0 < length text) (letter : get_or text 0 0 ≡ exponent_byte) {sign : Sign} {signs value count : ℕ}
-    (said : sign ≡ sign_in (onward 1 text)) (counted : signs ≡ sign_count sign) (run : RunFound (onward signs (onward 1 text)) 2 0 value count) where
+    (said : sign ≡ leading_sign (onward 1 text)) (counted : signs ≡ sign_count sign) (run : RunFound (onward signs (onward 1 text)) 2 0 value count) where
   -- the digits behind the sign
   abbrev digits : List ℕ
   digits = digits_in 2 (onward signs (onward 1 text))
@@ -472,9 +466,9 @@ module _ (text : List ℕ) (there : 0 < length text) (letter : get_or text 0 0 �
   power_run =
       let behind : drop 1 text ≡ onward 1 text = sym (take_rest text 1) in
       let left : drop signs (onward 1 text) ≡ onward signs (onward 1 text) = sym (take_rest (onward 1 text) signs) in
-      let size : sign_length (sign_in (onward 1 text)) ≡ signs = sym (long ∙ ap sign_length said) in
+      let size : sign_length (leading_sign (onward 1 text)) ≡ signs = sym (long ∙ ap sign_length said) in
       power_there text there letter
-      ∙ ap (λ (l : List ℕ). power_of (sign_in l) (digits_in 2 (drop (sign_length (sign_in l)) l))) behind
+      ∙ ap (λ (l : List ℕ). power_of (leading_sign l) (digits_in 2 (drop (sign_length (leading_sign l)) l))) behind
       ∙ (λ i. power_of (sym said i) (digits_in 2 (drop (size i) (onward 1 text))))
       ∙ ap (λ (l : List ℕ). power_of sign (digits_in 2 l)) left
 

@@ -13,12 +13,12 @@ use lib.Seq.{drop-append_seam, drop-drop}
 use Rattle.decimal.specs.declared.image.Image.{Image}
 use Rattle.decimal.specs.declared.number.Number.{Number}
 use Rattle.decimal.specs.Answer.{Answer, done, ◌then◌, pick}
-use Rattle.decimal.specs.Image.{sign_bytes, times, image_bytes, read_image}
+use Rattle.decimal.specs.Image.{leading_sign, sign_bytes, times, image_bytes, read_image}
 use Rattle.decimal.specs.Truncation.{Truncated, truncation}
 use Rattle.decimal.proofs.TruncationLaws.{truncation_fit}
 use Rattle.codec.specs.Lists.{max_columns}
 use Rattle.codec.specs.Alpha.{blank_byte, alpha_text, alpha_under, alpha_of, alpha_texts, parted}
-use Rattle.codec.specs.Text.{TextParts, Legal, HasForm, fraction_digits, all_digits_of, text_bytes, text_value, blanks_in, sign_in, sign_part, sign_part_in, sign_part_bytes, digits_in, point_in, power_in, numeral_in, parts_in, reading_in, legal_length, read_texts}
+use Rattle.codec.specs.Text.{TextParts, Legal, HasForm, fraction_digits, all_digits_of, text_bytes, text_value, blanks_in, sign_part, sign_part_in, sign_part_bytes, digits_in, point_in, power_in, numeral_in, parts_in, reading_in, legal_length, read_texts}
 use Rattle.codec.specs.Walking.{bytes_before, number_place, FirstPlace, stop_before, stopped, numbers_in, walking, line_end, LineBack}
 use Rattle.decimal.proofs.AnswerLaws.{then_done}
 use Rattle.codec.proofs.TextLaws.{text_length_lem, text_long, legal_some, reading_number}
@@ -191,7 +191,7 @@ end_ends = record { ends = ends_last 0; no_number = empty_length }
 
 -- so does the byte behind it
 byte_ends : (others : List ℕ) → LineEnd (line_end ∷ others)
-unfolding times sign_in sign_bytes sign_part sign_part_in sign_part_bytes digits_in point_in power_in numeral_in parts_in fraction_digits reading_in
+unfolding times leading_sign sign_bytes sign_part sign_part_in sign_part_bytes digits_in point_in power_in numeral_in parts_in fraction_digits reading_in
 byte_ends others =
     record {
       ends = record { stops = stops_byte line_end others refl (λ e. omega (arith, e)); no_power = refl; no_blank = refl };

@@ -5,9 +5,9 @@ use Rattle.decimal.specs.declared.number.Number.{Number}
 use Rattle.decimal.specs.Answer.{Answer, done, refused, ◌then◌}
 use Rattle.decimal.specs.Digits.{value_of, leading_zeros}
 use Rattle.decimal.specs.Number.{exponent_limit, zero_number, shifted_number, scaled_number}
-use Rattle.decimal.specs.Image.{plus_byte, minus_byte, point_byte, sign_bytes, times}
+use Rattle.decimal.specs.Image.{leading_sign, plus_byte, minus_byte, point_byte, sign_bytes, times}
 use Rattle.codec.specs.Alpha.{blank_byte, exponent_byte, digit_bytes}
-use Rattle.codec.specs.Text.{fraction_digits, sign_part_bytes, point_bytes, power_bytes, numeral_bytes, text_bytes, is_minus, has_minus, power_value, text_value, digits_in, sign_in}
+use Rattle.codec.specs.Text.{fraction_digits, sign_part_bytes, point_bytes, power_bytes, numeral_bytes, text_bytes, is_minus, has_minus, power_value, text_value, digits_in}
 use Rattle.codec.specs.Text.{sign_part, sign_part_in, point_in, power_of, power_in, numeral_in, parts_in, reading_in, TextNumber, read_text, convert_text}
 use Rattle.codec.specs.declared.walking.Stop.TheVariants as gives
 use Rattle.codec.specs.Walking.{bytes_before, number_place, Walk, stop_before, stopped, with_number, numbers_in, walking}
@@ -127,7 +127,7 @@ pub record KnownTexts : Type 0 where
 -- all of them hold
 pub known_texts : KnownTexts
 unfolding read_number minus_twelve minus_half seven twelve_and_fifteen torn remarked position large fourteen twelve spaced ◌then◌ value_of leading_zeros shifted_number scaled_number times sign_bytes digit_bytes
-    fraction_digits sign_part_bytes point_bytes power_bytes text_bytes is_minus has_minus power_value text_value digits_in sign_in sign_part sign_part_in point_in
+    fraction_digits sign_part_bytes point_bytes power_bytes text_bytes is_minus has_minus power_value text_value digits_in leading_sign sign_part sign_part_in point_in
     power_of power_in parts_in numeral_bytes numeral_in reading_in read_text convert_text bytes_before number_place stop_before stopped with_number numbers_in
     walking
 known_texts =

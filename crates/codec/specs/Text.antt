@@ -7,7 +7,7 @@ use Rattle.decimal.specs.Answer.{Answer, done, refused, ◌then◌, pick, meanin
 use Rattle.decimal.specs.Digits.{precision, Digits, value_of}
 use Rattle.decimal.specs.Number.{exponent_limit, scaled_number}
 use Rattle.decimal.specs.Constructors.{IsScaled, ScaledOutside}
-use Rattle.decimal.specs.Image.{plus_byte, minus_byte, point_byte, sign_bytes, times, leading_run, sign_of}
+use Rattle.decimal.specs.Image.{plus_byte, minus_byte, point_byte, sign_bytes, times, leading_run, leading_sign}
 use Rattle.codec.specs.declared.text.Numeral.{Numeral}
 use Rattle.codec.specs.declared.text.Reading.{Reading}
 pub use Rattle.codec.specs.declared.text.TextNumber.{TextNumber}
@@ -152,11 +152,6 @@ digits_in zero bs = []
 digits_in (suc n) [] = []
 digits_in (suc n) (b ∷ bs) = pick (is_digit b) ((b - zero_byte) ∷ digits_in n bs) []
 
--- the sign that bytes begin with
-unfoldable pub sign_in : List ℕ → Sign
-sign_in [] = Unsigned
-sign_in (b ∷ bs) = sign_of b
-
 abbrev pub sign_length : Sign → ℕ
 sign_length s = length (sign_bytes s)
 
@@ -168,7 +163,7 @@ sign_part Minus blanks = minus_sign blanks
 
 -- the sign that bytes begin with, and the blanks behind it
 unfoldable pub sign_part_in : List ℕ → SignPart
-sign_part_in bytes = sign_part (sign_in bytes) (blanks_in (drop (sign_length (sign_in bytes)) bytes))
+sign_part_in bytes = sign_part (leading_sign bytes) (blanks_in (drop (sign_length (leading_sign bytes)) bytes))
 
 abbrev pub sign_part_length : SignPart → ℕ
 sign_part_length s = length (sign_part_bytes s)
@@ -185,7 +180,7 @@ power_of sign (d ∷ ds) = exponent sign (d ∷ ds)
 
 unfoldable pub power_in : List ℕ → ExponentPart
 power_in [] = no_exponent
-power_in (b ∷ bs) = pick (eqb b exponent_byte) (power_of (sign_in bs) (digits_in 2 (drop (sign_length (sign_in bs)) bs))) no_exponent
+power_in (b ∷ bs) = pick (eqb b exponent_byte) (power_of (leading_sign bs) (digits_in 2 (drop (sign_length (leading_sign bs)) bs))) no_exponent
 
 -- the numeral that bytes begin with; there may be no digit
 unfoldable pub numeral_in : List ℕ → NumeralParts

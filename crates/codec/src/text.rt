@@ -2,11 +2,11 @@
 // text, second paragraph; document 02, (i) and (v)).
 ghost use Rattle.std.specs.Prelude.{◌≡◌};
 ghost use Rattle.decimal.specs.Answer.{meaning};
+ghost use Rattle.decimal.specs.Image.{leading_sign};
 ghost use Rattle.codec.specs.Text.{
   is_minus,
   legal_length,
   convert_text,
-  sign_in,
   DigitsFit,
   SignFound,
   RunFound,
@@ -95,9 +95,9 @@ struct Numeral {
 }
 
 // The sign that a text begins with.
-#[tactic(auto, using(crate::proofs::TextLaws::sign_none, crate::proofs::TextLaws::sign_some))]
+#[tactic(auto, using(crate::proofs::TextLaws::sign_none, decimal::proofs::ImageLaws::first_sign))]
 fn leading_sign(text: &[u8]) -> Sign
-    ensures { result ≡ sign_in text.now }
+    ensures { result ≡ leading_sign text.now }
 {
     match text {
         [first, ..] => sign_of(*first),

@@ -13,19 +13,17 @@ use mathlib.Core.Bool.{Bool, true, false, ◌||◌, false≢true}
 use native.Mathlib.Omega.{arith}
 use lib.Dec.{eqb}
 use lib.ListN.{length, length-append}
-use Rattle.decimal.specs.declared.image.Sign.{Sign}
-use Rattle.decimal.specs.declared.image.Sign.TheVariants.{Unsigned, Plus, Minus}
 use Rattle.decimal.specs.Answer.{refused, pick}
 use Rattle.decimal.specs.Digits.{precision}
 use Rattle.decimal.specs.Image.{point_byte, sign_bytes}
 use Rattle.codec.specs.Alpha.{blank_byte, digit_bytes}
 use Rattle.codec.specs.Text.{SignPart, no_sign, plus_sign, minus_sign, PointPart, no_point, point, ExponentPart, no_exponent, exponent, TextParts, HasForm}
-use Rattle.codec.specs.Text.{fraction_digits, sign_part_bytes, point_bytes, power_bytes, PowerLegal, sign_length, sign_part_length}
+use Rattle.codec.specs.Text.{fraction_digits, sign_part_bytes, point_bytes, power_bytes, PowerLegal, sign_part_length}
 use Rattle.decimal.proofs.ImageLaws.{times_length}
 use Rattle.codec.specs.StrictText.{byte_count, sign_blanks}
 use Rattle.codec.proofs.AlphaLaws.{digit_bytes_length}
 use Rattle.codec.proofs.BlankLaws.{form_blanks}
-use Rattle.codec.proofs.TextLaws.{numeral_length, text_length_lem}
+use Rattle.codec.proofs.TextLaws.{sign_short, numeral_length, text_length_lem}
 use Rattle.codec.proofs.FormLaws.{converts_none}
 use Rattle.records.specs.declared.marks.Marks.{Marks}
 use Rattle.records.specs.Marks.{no_text_byte, is_dropped, read_byte, without_marks}
@@ -61,14 +59,7 @@ count_without m (b ∷ bs) = go (is_dropped m b) refl (count_without m bs)
     go true e h = h
     go false e h = rw (kept_solid m b e) h
 
--- a sign has at most one byte
-sign_short : (s : Sign) → sign_length s ≤ 1
-unfolding sign_bytes
-sign_short Unsigned = omega arith
-sign_short Plus = omega arith
-sign_short Minus = omega arith
-
--- with blanks behind it, at most one byte more than the blanks
+-- a sign with blanks behind it has at most one byte more than the blanks
 sign_part_short : (s : SignPart) → sign_part_length s ≤ 1 + sign_blanks s
 unfolding sign_part_bytes sign_blanks
 sign_part_short no_sign = omega arith

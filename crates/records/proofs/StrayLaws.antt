@@ -1,7 +1,7 @@
 -- Reading a field back under marks: a point that is no mark, and a comma that is no mark, give 8.
 -- Assumes nothing.
 use Prim.Native.Nat.{ℕ, zero, suc, ◌<◌, ◌≤◌}
-use mathlib.Core.Path.{◌≡◌, refl, ap, sym, subst⁻¹, ◌∙◌}
+use mathlib.Core.Path.{◌≡◌, refl, ap, sym, subst, ◌∙◌}
 use mathlib.Core.List.{List, [], ◌∷◌}
 use mathlib.Core.Bool.{Bool, true, false}
 use native.Mathlib.Omega.{arith}
@@ -62,47 +62,41 @@ kept_counts m (c ∷ bs) (suc j) {b} inside is kept = go (is_dropped m c) (kept_
     go true h = h
     go false h = omega (arith, count_more (read_byte m b) (read_byte m c) (without_marks m bs))
 
--- a byte that is kept as one that no text number has gives 8
-foreign_refused : (m : Marks) (field : List ℕ) (j : ℕ) {b : ℕ} → j < length field → get_or field j 0 ≡ b → is_dropped m b ≡ false → NoText (read_byte m b)
-    → read_marked m field ≡ refused 8 0
-unfolding read_marked
-foreign_refused m field j {b} inside is kept none =
-    let some = kept_counts m field j inside is kept in
-    converts_none (without_marks m field)
-    (λ t form. omega (arith, some, ap (byte_count (read_byte m b)) form.written, none_text none t))
-
 -- a byte is no mark
 pub record NoMark (m : Marks) (b : ℕ) : Type 0 where
   pub no_decimal : b ≡ m.decimal → ⊥
   pub no_thousands : b ≡ m.thousands → ⊥
   pub no_filling : b ≡ m.filling → ⊥
 
+-- a byte that is no mark and no blank, and is read as one that no text number has, gives 8
+stray : (m : Marks) (field : List ℕ) (j : ℕ) {b x : ℕ} → j < length field → get_or field j 0 ≡ b → NoMark m b → (b ≡ blank_byte → ⊥)
+    → read_byte m b ≡ x → NoText x → read_marked m field ≡ refused 8 0
+unfolding is_dropped read_marked
+stray m field j {b} {x} inside is none solid read no-text =
+    let kept : is_dropped m b ≡ false =
+    rw (ne_eqb b blank_byte solid, ne_eqb b m.filling none.no_filling, ne_eqb b m.thousands none.no_thousands) in
+    let some : 1 ≤ byte_count x (without_marks m field) =
+    subst (λ (c : ℕ). 1 ≤ byte_count c (without_marks m field)) read (kept_counts m field j inside is kept) in
+    converts_none (without_marks m field) (λ t form. omega (arith, some, ap (byte_count x) form.written, none_text no-text t))
+
 -- Published: a field with a point that is no mark is refused with 8.
 pub stray_point : (m : Marks) (field : List ℕ) (j : ℕ) → j < length field → get_or field j 0 ≡ point_byte → NoMark m point_byte
     → read_marked m field ≡ refused 8 0
-unfolding is_dropped read_byte
+unfolding read_byte
 stray_point m field j inside is none =
-    let kept : is_dropped m point_byte ≡ false =
-    rw (ne_eqb point_byte m.filling none.no_filling, ne_eqb point_byte m.thousands none.no_thousands) in
-    let read : read_byte m point_byte ≡ no_text_byte = rw (ne_eqb point_byte m.decimal none.no_decimal) in
-    foreign_refused m field j inside is kept
-    (subst⁻¹ NoText read
+    stray m field j {x = no_text_byte} inside is none (λ e. omega arith) (rw (ne_eqb point_byte m.decimal none.no_decimal))
     (record {
       foreign = record { below = omega arith; no_plus = λ e. omega arith; no_minus = λ e. omega arith; no_point_lem = λ e. omega arith };
       no_blank = λ e. omega arith;
-    }))
+    })
 
 -- Published: so is a field with a comma that is no mark.
 pub stray_comma : (m : Marks) (field : List ℕ) (j : ℕ) → j < length field → get_or field j 0 ≡ comma_byte → NoMark m comma_byte
     → read_marked m field ≡ refused 8 0
-unfolding is_dropped read_byte
+unfolding read_byte
 stray_comma m field j inside is none =
-    let kept : is_dropped m comma_byte ≡ false =
-    rw (ne_eqb comma_byte m.filling none.no_filling, ne_eqb comma_byte m.thousands none.no_thousands) in
-    let read : read_byte m comma_byte ≡ comma_byte = rw (ne_eqb comma_byte m.decimal none.no_decimal) in
-    foreign_refused m field j inside is kept
-    (subst⁻¹ NoText read
+    stray m field j {x = comma_byte} inside is none (λ e. omega arith) (rw (ne_eqb comma_byte m.decimal none.no_decimal))
     (record {
       foreign = record { below = omega arith; no_plus = λ e. omega arith; no_minus = λ e. omega arith; no_point_lem = λ e. omega arith };
       no_blank = λ e. omega arith;
-    }))
+    })

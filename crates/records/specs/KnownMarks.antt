@@ -8,7 +8,7 @@ use Rattle.decimal.specs.Image.{integers_from, fractions_from, leading_sign, che
 use Rattle.decimal.specs.Truncation.{whole_of, exceeds, exponent_outside, stored_exponent, truncated_to, limited, truncation}
 use Rattle.codec.specs.Packing.{exponent_size}
 use Rattle.codec.specs.Alpha.{blank_byte, exponent_byte, digit_bytes, sign_text, fraction_text, exponent_text, alpha_text}
-use Rattle.codec.specs.Text.{fraction_digits, sign_part_bytes, point_bytes, power_bytes, text_bytes, is_minus, has_minus, power_value, text_value, digits_in, sign_in, sign_part, sign_part_in, point_in, power_of, power_in, numeral_bytes, numeral_in, parts_in, reading_in, convert_text}
+use Rattle.codec.specs.Text.{fraction_digits, sign_part_bytes, point_bytes, power_bytes, text_bytes, is_minus, has_minus, power_value, text_value, digits_in, sign_part, sign_part_in, point_in, power_of, power_in, numeral_bytes, numeral_in, parts_in, reading_in, convert_text}
 use Rattle.records.specs.declared.marks.Marks.{Marks}
 use Rattle.records.specs.Marks.{with_decimal, is_dropped, read_byte, without_marks}
 use Rattle.records.specs.Fields.{sign_byte_of, fill_byte, fill_next, fill_bytes, shown_marked, number_marked, read_marked}
@@ -64,7 +64,7 @@ pub known_marks : KnownMarks
 unfolding danish starred ticked thousands_field exponential_field field_under danish_bytes ◌then◌ digits_of value_of zeros leading_zeros normal magnitude
     check_number shifted_number scaled_number times sign_bytes next_state run_state integers_from fractions_from leading_sign check_image scanned_image whole_of
     exceeds exponent_outside stored_exponent truncated_to limited truncation exponent_size digit_bytes sign_text fraction_text exponent_text alpha_text
-    fraction_digits sign_part_bytes point_bytes power_bytes text_bytes is_minus has_minus power_value text_value digits_in sign_in sign_part sign_part_in point_in power_of power_in parts_in numeral_bytes
+    fraction_digits sign_part_bytes point_bytes power_bytes text_bytes is_minus has_minus power_value text_value digits_in sign_part sign_part_in point_in power_of power_in parts_in numeral_bytes
     numeral_in reading_in convert_text with_decimal is_dropped read_byte without_marks sign_byte_of fill_byte fill_next fill_bytes shown_marked number_marked read_marked
 known_marks =
     record { danish_field = refl; danish_read = refl; ticked_read = refl; starred_field = refl; starred_exponential = refl }
