@@ -247,6 +247,7 @@ fn call(line: &str) -> Option<String> {
         "list" => list(&a, &b),
         "report" => report(&a, &b),
         "find" => find(&a, &b),
+        "merge" => written(model::merge(&b, &c, a.len()), &a),
         _ => return None,
     })
 }

@@ -1,7 +1,7 @@
 mod model;
 
-// Reads calls in the format of vectors/base.txt from standard input. Prints each line whose answer differs, followed by the
-// answer found here, and last the counts. A line that cannot be read as a call counts as differing.
+// Reads calls in the format of vectors/base.txt and vectors/changes-i-vii.txt from standard input. Prints each line whose answer differs,
+// followed by the answer found here, and last the counts. A line that cannot be read as a call counts as differing.
 use model::{Element, Number, Refusal};
 use std::io::{Read, Write};
 
@@ -133,6 +133,7 @@ fn make_call(words: &[&str]) -> Option<String> {
         ["add", buffer, used, numbers] => add_answer(buffer, used, numbers)?,
         ["show", file, r] => show_answer(file, r)?,
         ["find", file, positions] => find_answer(file, positions)?,
+        ["merge", first, second, room] => bytes_answer(model::merge(&bytes(first)?, &bytes(second)?, size(room)?)),
         ["contents", contents, room] => bytes_answer(model::write_contents(&bytes(contents)?, size(room)?)),
         ["listing", file] => format!("ok {}", hexadecimal(&model::listing_output(&bytes(file)?))),
         _ => return None,

@@ -32,6 +32,11 @@ impl Random {
     }
 }
 
+/// Gives one of some values.
+pub fn one_of<T: Clone>(random: &mut Random, values: &[T]) -> T {
+    values[random.below(values.len())].clone()
+}
+
 /// Gives an image that a contents can have.
 pub fn image(random: &mut Random) -> Vec<u8> {
     let most = if random.below(3) == 0 { 13 } else { 5 };
@@ -122,7 +127,7 @@ pub fn images(random: &mut Random) -> Vec<Vec<u8>> {
 }
 
 /// Gives how many records a file has: mostly few, at times as many as a file of 65,536 bytes holds, or some more.
-fn record_count(random: &mut Random, images: &[Vec<u8>]) -> usize {
+pub fn record_count(random: &mut Random, images: &[Vec<u8>]) -> usize {
     let contents = contents_of(images);
     let body = model::read_contents_alone(&contents).map(|read| model::body_length(&read)).unwrap_or(1);
     let most = (65_536 - contents.len()) / body;

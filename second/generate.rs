@@ -1,19 +1,15 @@
 mod answers;
 mod files;
 mod model;
+mod pairs;
 
 // Writes generated calls for the programs `calls`, one to a line: valid and damaged ones, so that every refusal comes up.
 // Arguments: the seed, the count.
 use answers::hexadecimal;
-use files::Random;
+use files::{Random, one_of};
 use model::{Element, Number};
-use std::cmp::Ordering;
+use pairs::ordered;
 use std::io::Write;
-
-/// Gives one of some values.
-fn one_of<T: Clone>(random: &mut Random, values: &[T]) -> T {
-    values[random.below(values.len())].clone()
-}
 
 /// Gives some bytes of a set.
 fn bytes_of(random: &mut Random, set: &[u8], most: usize) -> Vec<u8> {
@@ -291,10 +287,9 @@ fn listing(random: &mut Random, name: &str) -> Vec<Vec<u8>> {
     vec![buffer_for(random, whole.len()), file]
 }
 
-/// Gives numbers in the order of their values.
-fn ordered(mut numbers: Vec<Number>) -> Vec<Number> {
-    numbers.sort_by(|a, b| if !model::at_least(a, b) { Ordering::Less } else if a == b { Ordering::Equal } else { Ordering::Greater });
-    numbers
+/// Gives how many records a short file has.
+fn few_records(random: &mut Random) -> usize {
+    if random.below(6) == 0 { 0 } else { random.below(9) }
 }
 
 /// Gives a file to find positions in: mostly with an unsigned fixed-point first column that does not fall, and equal ones in it; at times
@@ -303,15 +298,12 @@ fn file_in_order(random: &mut Random) -> Vec<u8> {
     if random.below(12) == 0 {
         return file(random);
     }
-    let mut images = files::images(random);
-    if random.below(12) > 0 {
-        images[0] = one_of(random, &[&b"#"[..], b"##", b"###", b"##.#", b".###", b"#####", b"#######.######", b"#############"]).to_vec();
-    }
+    let images = pairs::images_in_order(random);
     let mut bytes = files::contents_of(&images);
     let read = model::read_contents_alone(&bytes).unwrap_or_default();
     let Some(first) = read.first() else { return bytes };
-    let count = if random.below(6) == 0 { 0 } else { random.below(9) };
-    let mut keys: Vec<Number> = (0..count).map(|_| Number { negative: false, ..files::number(random, first) }).collect();
+    let count = few_records(random);
+    let mut keys: Vec<Number> = (0..count).map(|_| pairs::key(random, first)).collect();
     if random.below(8) > 0 {
         keys = ordered(keys);
     }
@@ -322,9 +314,7 @@ fn file_in_order(random: &mut Random) -> Vec<u8> {
     }
     let front = bytes.len();
     for key in keys {
-        let mut numbers: Vec<Number> = read.iter().map(|image| files::number(random, image)).collect();
-        numbers[0] = key;
-        bytes.extend(model::pack_list(&read, &numbers).unwrap_or_default());
+        bytes.extend(pairs::body(random, &read, key));
     }
     let behind = bytes.len() - model::body_length(&read).min(bytes.len() - front);
     match random.below(24) {
@@ -365,6 +355,25 @@ fn find(random: &mut Random) -> Vec<Vec<u8>> {
     vec![file, items(&if keep { positions } else { ordered(positions) })]
 }
 
+/// Gives a buffer for a merged file: mostly long enough, at times one byte short, empty or far longer.
+fn buffer_for_merged(random: &mut Random, length: usize) -> Vec<u8> {
+    let room = match random.below(12) {
+        0 => 0,
+        1 => length.saturating_sub(1),
+        2 => length + 300,
+        3..=6 => length,
+        _ => length + random.below(6),
+    };
+    (0..room).map(|_| random.below(256) as u8).collect()
+}
+
+/// Gives the words of a call that merges two files.
+fn merge(random: &mut Random) -> Vec<Vec<u8>> {
+    let (first, second) = pairs::next_pair(random, |random, _| random.below(8));
+    let length = model::merge(&first, &second, usize::MAX).map_or(first.len().max(second.len()), |merged| merged.len());
+    vec![buffer_for_merged(random, length), first, second]
+}
+
 /// Gives the words of a call by its name.
 fn words(random: &mut Random, name: &str) -> Vec<Vec<u8>> {
     match name {
@@ -398,16 +407,17 @@ fn words(random: &mut Random, name: &str) -> Vec<Vec<u8>> {
         }
         "add" => add(random),
         "find" => find(random),
+        "merge" => merge(random),
         "show" => vec![file(random), size(one_of(random, &[0, 0, 1, 1, 2, 3, 4, 5, 6, usize::MAX]))],
         _ => listing(random, name),
     }
 }
 
 /// The names of the calls; those that have most to get wrong stand there more than once.
-const NAMES: [&str; 30] = [
+const NAMES: [&str; 34] = [
     "compare", "image", "truncate", "pack", "pack", "cutoff", "cutoff", "unpack", "unpack", "alpha", "legal", "read", "convert", "place",
     "numbers", "scan", "print", "print", "print", "forecast", "field", "contents", "add", "add", "show", "list", "report", "find", "find",
-    "find",
+    "find", "merge", "merge", "merge", "merge",
 ];
 
 /// Damages a line so that it is no call, for most lines.

@@ -844,26 +844,88 @@ pub struct Found {
     pub comparisons: usize,
 }
 
+/// Tells whether an image is unsigned fixed point.
+fn is_unsigned_fixed(image: &Image) -> bool {
+    image.sign.is_none() && !image.exponential
+}
+
+/// Reads every body of a file back, all of its columns, and gives the first columns.
+fn first_columns(images: &[Image], bodies: &[&[u8]]) -> Result<Vec<Number>, Refusal> {
+    bodies.iter().map(|body| Ok(unpack_body(images, body)?[0])).collect()
+}
+
 /// Finds for each position the first record whose first column is at least the position, or the record count.
 pub fn find(file: &[u8], positions: &[Number]) -> Result<Found, Refusal> {
     let (images, bodies) = read_file(file)?;
     if positions.len() > MOST_POSITIONS {
         return refuse(10, 0);
     }
-    let records = bodies.iter().map(|body| unpack_body(&images, body)).collect::<Result<Vec<_>, _>>()?;
+    let columns = first_columns(&images, &bodies)?;
     for (index, position) in positions.iter().enumerate() {
         require_normal(position, index)?;
     }
-    if images[0].sign.is_some() || images[0].exponential {
+    if !is_unsigned_fixed(&images[0]) {
         return refuse(16, 0);
     }
     if falls(positions) {
         return refuse(14, 0);
     }
-    let columns: Vec<Number> = records.iter().map(|record| record[0]).collect();
     if falls(&columns) {
         return refuse(15, 0);
     }
     let first = |position| columns.iter().position(|column| at_least(column, position)).unwrap_or(columns.len());
     Ok(Found { records: positions.iter().map(first).collect(), comparisons: comparisons(positions, &columns) })
+}
+
+// ---- Document 02, (vi) ----
+
+/// A camera's file with all of document 01's checks behind it: the bytes of its contents, its images, its bodies and their first columns.
+struct Roll<'a> {
+    contents: &'a [u8],
+    images: Vec<Image>,
+    bodies: Vec<&'a [u8]>,
+    columns: Vec<Number>,
+}
+
+/// Reads a camera's file, every body too.
+fn read_roll(file: &[u8]) -> Result<Roll<'_>, Refusal> {
+    let (images, bodies) = read_file(file)?;
+    let columns = first_columns(&images, &bodies)?;
+    let contents = &file[..file.len() - bodies.len() * body_length(&images)];
+    Ok(Roll { contents, images, bodies, columns })
+}
+
+/// Gives the records of a camera's file: each one's first column and body.
+fn records_of<'a>(roll: &Roll<'a>) -> Vec<(Number, &'a [u8])> {
+    roll.columns.iter().copied().zip(roll.bodies.iter().copied()).collect()
+}
+
+/// Gives how a number stands to another by value.
+fn order_by_value(first: &Number, second: &Number) -> std::cmp::Ordering {
+    match (at_least(first, second), at_least(second, first)) {
+        (true, true) => std::cmp::Ordering::Equal,
+        (true, false) => std::cmp::Ordering::Greater,
+        _ => std::cmp::Ordering::Less,
+    }
+}
+
+/// The call that merges two files into a buffer: the records of both in the order of their first columns, on equal ones the first file's
+/// before the second's.
+pub fn merge(first: &[u8], second: &[u8], room: usize) -> Result<Vec<u8>, Refusal> {
+    let (first, second) = (read_roll(first)?, read_roll(second)?);
+    if first.contents != second.contents {
+        return refuse(17, 0);
+    }
+    // The contents are the same, so this says the same of the second file.
+    if !is_unsigned_fixed(&first.images[0]) {
+        return refuse(16, 0);
+    }
+    if falls(&first.columns) || falls(&second.columns) {
+        return refuse(15, 0);
+    }
+    let mut records = [records_of(&first), records_of(&second)].concat();
+    // A stable sort: records with equal first columns keep their order, each file's own and the first file before the second.
+    records.sort_by(|(one, _), (other, _)| order_by_value(one, other));
+    let bodies: Vec<&[u8]> = records.iter().map(|(_, body)| *body).collect();
+    fit([first.contents, &bodies.concat()].concat(), room)
 }

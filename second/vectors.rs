@@ -5,7 +5,7 @@ mod model;
 use model::{Element, Number, Refusal};
 use std::io::Write;
 
-// The room for a text, a body or a print: no row needs more.
+// The room for a text, a body, a print or a merged file: no row needs more.
 const ROOM: usize = 256;
 
 /// Gives a refusal's number and place as words.
@@ -318,6 +318,50 @@ fn digit_rows() -> String {
     rows.iter().map(|&(image, whole, scale)| image_row(image, whole, scale)).collect()
 }
 
+/// Gives the row of two files that are merged, with room for every byte: the merged file, or the refusal.
+fn merge_row(first: &[u8], second: &[u8]) -> String {
+    let answer = match model::merge(first, second, ROOM) {
+        Ok(merged) => hexadecimal_words(&merged),
+        Err(refusal) => refusal_words(refusal),
+    };
+    format!("merge {} and {}: {answer}\n", hexadecimal_words(first), hexadecimal_words(second))
+}
+
+/// Gives the rows of files that are merged, the second column telling the cameras apart in the first rows: document 02, (vi).
+fn merge_rows() -> String {
+    let left = [2, 2, b'#', b'#', 1, b'#', 0x05, 0x10, 0x12, 0x10, 0x12, 0x00, 0x99, 0x10];
+    let right = [2, 2, b'#', b'#', 1, b'#', 0x00, 0x20, 0x12, 0x20, 0x12, 0x00, 0x34, 0x20, 0x99, 0x20];
+    let none = [2, 2, b'#', b'#', 1, b'#'];
+    let falling = [1, 2, b'#', b'#', 0x05, 0x12, 0x11];
+    let steps = [1, 2, b'#', b'#', 0x05, 0x12];
+    let signed = [1, 2, b'+', b'#', 0x05, 0x03];
+    let exponential = [1, 5, b'#', b'^', b'^', b'^', b'^', 0x50, 0x00];
+    let rows: [(&[u8], &[u8]); 21] = [
+        (&left, &right),
+        (&right, &left),
+        (&left, &none),
+        (&none, &right),
+        (&none, &none),
+        (&[1, 2, b'#', b'#', 0x05, 0x05, 0x12], &[1, 2, b'#', b'#', 0x05, 0x12, 0x12, 0x13]),
+        (&[1, 1, b'#', 0x10], &[1, 2, b'#', b'#', 0x10]),
+        (&[1, 4, b'#', b'#', b'.', b'#', 0x01, 0x20], &[1, 4, b'#', b'.', b'#', b'#', 0x01, 0x20]),
+        (&left, &steps),
+        (&signed, &[1, 2, b'+', b'#']),
+        (&exponential, &exponential),
+        (&falling, &steps),
+        (&steps, &falling),
+        (&falling, &signed),
+        (&signed, &falling),
+        (&steps, &[1, 1, b'#', 0x1a]),
+        (&falling, &[1, 2, b'#', b'#', 0x05, 0xa0]),
+        (&[2, 1, b'#', 1, b'#', 0x10, 0x10, 0x20, 0x2a], &[1, 2, b'#']),
+        (&[1, 3, b'#', b'#', b'#', 0x01, 0x20, 0x01], &[0]),
+        (&[17, 1, b'#'], &[1, 1, b'x']),
+        (&steps, &[0]),
+    ];
+    rows.iter().map(|&(first, second)| merge_row(first, second)).collect()
+}
+
 /// Gives the rows of printed lines: known values, then sources 000, 001 and 004.
 fn line_rows() -> String {
     let rows = [
@@ -370,6 +414,9 @@ fn fields_rows() -> String {
 
 /// Prints all rows.
 fn main() -> std::io::Result<()> {
-    let rows = [image_rows(), size_rows(), body_rows(), text_rows(), read_rows(), cut_rows(), page_rows(), digit_rows(), spaced_rows(), line_rows(), fields_rows()];
+    let rows = [
+        image_rows(), size_rows(), body_rows(), text_rows(), read_rows(), cut_rows(), page_rows(), digit_rows(), spaced_rows(), merge_rows(),
+        line_rows(), fields_rows(),
+    ];
     std::io::stdout().write_all(rows.concat().as_bytes())
 }
