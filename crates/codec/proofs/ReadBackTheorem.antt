@@ -151,13 +151,13 @@ columns_back column (im ∷ ims) (n ∷ ns) same h =
 -- Reading what packs.
 
 -- the first bytes of bytes are bytes
-bytes_take : (k : ℕ) {bs : List ℕ} → Bytes bs → Bytes (take k bs)
+pub bytes_take : (k : ℕ) {bs : List ℕ} → Bytes bs → Bytes (take k bs)
 bytes_take zero h = Bytes.none
 bytes_take (suc k) Bytes.none = Bytes.none
 bytes_take (suc k) (Bytes.more p h) = Bytes.more p (bytes_take k h)
 
 -- and so are the others
-bytes_drop : (k : ℕ) {bs : List ℕ} → Bytes bs → Bytes (drop k bs)
+pub bytes_drop : (k : ℕ) {bs : List ℕ} → Bytes bs → Bytes (drop k bs)
 bytes_drop zero h = h
 bytes_drop (suc k) Bytes.none = Bytes.none
 bytes_drop (suc k) (Bytes.more p h) = bytes_drop k h

@@ -44,7 +44,7 @@ pub(crate) fn half_count(image: Image) -> usize
 
 // The count of bytes in a column.
 #[tactic(auto, unfolding(crate::specs::Columns::column_size))]
-pub(crate) fn column_size(image: Image) -> usize
+pub fn column_size(image: Image) -> usize
     ensures { result ≡ column_size image }
 {
     let halves = half_count(image);

@@ -16,7 +16,7 @@ mod worths;
 
 pub use alpha::{sign_byte, write_alpha, write_alpha_under};
 pub use answers::written_part;
-pub use columns::sign_count;
+pub use columns::{column_size, sign_count};
 pub use contents::{Contents, read_alone, read_contents};
 pub use lists::{COLUMNS, Images, Numbers, Remainders};
 pub use packing::{pack, pack_under};

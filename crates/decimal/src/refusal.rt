@@ -1,4 +1,4 @@
-// Refusals (document 01: When a call says no; document 02 adds 14 to 16): every layer's reasons in one table, which a caller matches on.
+// Refusals (document 01: When a call says no; document 02 adds 14 to 17): every layer's reasons in one table, which a caller matches on.
 ghost use Rattle.std.specs.Prelude.{◌≡◌};
 ghost use Rattle.decimal.specs.Answer.{reason_number};
 
@@ -41,6 +41,8 @@ pub enum Reason {
     RecordsFall = 15,
     // The first column is signed or exponential.
     WrongKind = 16,
+    // The contents of two files differ.
+    ContentsDiffer = 17,
 }
 
 impl Reason {

@@ -2,7 +2,7 @@
 -- Assumes nothing.
 use Prim.Native.Nat.{ℕ, zero, suc, ◌<◌}
 use mathlib.Core.Path.{◌≡◌, refl, ap, sym, subst, ◌∙◌}
-use mathlib.Core.Bool.{Bool, true, false}
+use mathlib.Core.Bool.{true}
 use mathlib.Core.List.{List, [], ◌∷◌}
 use Rattle.std.proofs.Common.{Result, Ok, Err}
 use Rattle.decimal.specs.declared.refusal.Refusal.{Refusal}
@@ -12,11 +12,9 @@ use native.Mathlib.Omega.{arith}
 use lib.Dec.{leb}
 use lib.ListN.{length, get_or}
 use borrow.Author.Tests.{leb-true}
-use Rattle.decimal.specs.declared.image.Sign.{Sign}
-use Rattle.decimal.specs.declared.image.Sign.TheVariants.{Unsigned, Plus, Minus}
 use Rattle.decimal.specs.declared.image.Image.{Image}
 use Rattle.decimal.specs.declared.number.Number.{Number}
-use Rattle.decimal.specs.Answer.{Answer, done, refused, ◌then◌, pick, mapped, meaning}
+use Rattle.decimal.specs.Answer.{Answer, done, refused, ◌then◌, mapped, meaning}
 use Rattle.decimal.specs.Number.{zero_number, normal}
 use Rattle.decimal.proofs.AnswerLaws.{never_done, done_same, then_done, then_last}
 use Rattle.decimal.proofs.NumberLaws.{check_normal}
@@ -27,30 +25,25 @@ use Rattle.codec.specs.Unpacking.{unpack_body}
 use Rattle.records.specs.Files.{read_file, record_count, bodies_in, shown_part}
 use Rattle.records.proofs.FileTheorem.{record_at}
 use Rattle.records.proofs.BodiesLaws.{records_count}
-use Rattle.rolls.specs.Falling.{fall}
-use Rattle.rolls.specs.Searching.{search_of, max_positions, keys_of, keys_in, Search, found, check_count, check_numbers, is_unsigned_fixed, check_kind, check_page, searching}
+use Rattle.rolls.specs.Falling.{NeverFall, fall}
+use Rattle.rolls.specs.Searching.{search_of, max_positions, keys_of, keys_in, Search, found, check_count, check_numbers, check_page, searching}
 use Rattle.rolls.specs.Finding.{Finds, HasKey, Askable}
 use Rattle.rolls.proofs.FallTheorem.{fall_exactly}
 use Rattle.rolls.proofs.FindTheorem.{finds}
-use Rattle.rolls.proofs.PageLaws.{all_normal, page_fine}
+use Rattle.rolls.proofs.PageLaws.{passed, kind_told, kind_fine, all_normal, page_fine}
 use Rattle.rolls.proofs.SearchLaws.{page_taken, search_done}
 
 -- The parts.
 
--- a test that was passed
-passed : (b : Bool) (number : ℕ) → pick {A = Answer (Unit {0})} b (done tt) (refused number 0) ≡ done tt → b ≡ true
-passed true number h = refl
-passed false number h = never_done h
-
 -- the keys of records: that of the first, and those of the others
-record KeysStep (ims : List Image) (b : List ℕ) (bs : List (List ℕ)) (keys : List Number) : Type 0 where
+pub record KeysStep (ims : List Image) (b : List ℕ) (bs : List (List ℕ)) (keys : List Number) : Type 0 where
   pub numbers : List Number
   pub reads : unpack_body ims b ≡ done numbers
   pub others : List Number
   pub rest : keys_of ims bs ≡ done others
   pub joined : get_or numbers 0 zero_number ∷ others ≡ keys
 
-keys_view : (ims : List Image) (b : List ℕ) (bs : List (List ℕ)) {keys : List Number} → keys_of ims (b ∷ bs) ≡ done keys → KeysStep ims b bs keys
+pub keys_view : (ims : List Image) (b : List ℕ) (bs : List (List ℕ)) {keys : List Number} → keys_of ims (b ∷ bs) ≡ done keys → KeysStep ims b bs keys
 unfolding keys_of
 keys_view ims b bs h =
     let one = then_done (unpack_body ims b) (λ (ns : List Number). (keys_of ims bs then λ ks. done (get_or ns 0 zero_number ∷ ks))) h in
@@ -88,19 +81,6 @@ module _ (table : Table) (file : List ℕ) {keys : List Number} (h : keys_in tab
       subst (λ (body : List ℕ). HasKey table.images body (get_or keys r zero_number)) (sym (record_at file r reads l))
       (keys_each table.images (bodies_in table file) h r (omega (arith, records_count table file)))
 
--- the kind of an image
-kind_true : (im : Image) → is_unsigned_fixed im ≡ true → UnsignedFixed im
-kind_true im h = go im.exponential refl im.sign refl
-  where
-    go : (e : Bool) → im.exponential ≡ e → (s : Sign) → im.sign ≡ s → UnsignedFixed im
-    go true k s m = let wrong : false ≡ true = sym (rw k) ∙ h in let z : ◌≡◌ {A = ℕ} 0 1 = cc in absurd (omega arith)
-    go false k Unsigned m = record { unsigned = m; fixed = k }
-    go false k Plus m = let wrong : false ≡ true = sym (rw (k, m)) ∙ h in let z : ◌≡◌ {A = ℕ} 0 1 = cc in absurd (omega arith)
-    go false k Minus m = let wrong : false ≡ true = sym (rw (k, m)) ∙ h in let z : ◌≡◌ {A = ℕ} 0 1 = cc in absurd (omega arith)
-
-kind_said : (im : Image) → UnsignedFixed im → is_unsigned_fixed im ≡ true
-kind_said im k = rw (k.fixed, k.unsigned)
-
 -- positions in normal form
 normals_said :
     (index : ℕ) (ps : List Number) → ((i : ℕ) → i < length ps → normal (get_or ps i zero_number) ≡ true) → check_numbers index ps ≡ done tt
@@ -109,11 +89,34 @@ normals_said index [] h = refl
 normals_said index (p ∷ ps) h =
     rw (check_normal p index (h 0 (omega arith))) (normals_said (suc index) ps (λ i l. h (suc i) (omega arith)))
 
+-- the same page, asked of another file
+pub page_asked :
+    {file other : List ℕ} {ps keys ks : List Number} {table : Table}
+    → Askable file ps keys
+    → read_file other ≡ done table
+    → keys_in table other ≡ done ks
+    → UnsignedFixed (get_or table.images 0 no_image)
+    → NeverFall ks
+    → Askable other ps ks
+page_asked {other = other} {table = table} a reads bodies kind order =
+    record {
+      table = table;
+      reads = reads;
+      page = a.page;
+      bodies = bodies;
+      records = keys_records table other bodies;
+      each = keys_shown table other bodies reads;
+      normals = a.normals;
+      positions = a.positions;
+      kind = kind;
+      in_order = order;
+    }
+
 -- The call.
 
 -- what is asked, of what is given
-asked : (file : List ℕ) (ps : List Number) {s : Search} → searching file ps ≡ done s → (keys : List Number) × Askable file ps keys × (s ≡ found ps keys)
-unfolding searching check_count check_page check_kind
+pub asked : (file : List ℕ) (ps : List Number) {s : Search} → searching file ps ≡ done s → (keys : List Number) × Askable file ps keys × (s ≡ found ps keys)
+unfolding searching check_count check_page
 asked file ps {s} h =
     let one = then_done (read_file file) (λ (t : Table). (check_count ps then λ _. (keys_in t file then λ ks. (check_page t.images ps (fall ks) then λ _. done (found ps ks))))) h in
     let table = one.value in
@@ -132,17 +135,17 @@ asked file ps {s} h =
         each = keys_shown table file three.first one.first;
         normals = all_normal ps taken.normals;
         positions = (fall_exactly ps).0 taken.positions;
-        kind = kind_true (get_or table.images 0 no_image) (passed (is_unsigned_fixed (get_or table.images 0 no_image)) 16 taken.kind);
+        kind = kind_told table.images taken.kind;
         in_order = (fall_exactly keys).0 taken.records;
       },
       sym (done_same four.1),
     )
 
 -- what is given, where all that is asked holds
-answered : {file : List ℕ} {ps keys : List Number} → Askable file ps keys → searching file ps ≡ done (found ps keys)
+pub answered : {file : List ℕ} {ps keys : List Number} → Askable file ps keys → searching file ps ≡ done (found ps keys)
 answered {file} {ps} {keys} a =
     search_done file ps a.reads a.page a.bodies
-    (page_fine a.table.images ps (fall keys) (normals_said 0 ps a.normals) (kind_said (get_or a.table.images 0 no_image) a.kind)
+    (page_fine a.table.images ps (fall keys) (normals_said 0 ps a.normals) (kind_fine a.table.images a.kind)
     ((fall_exactly ps).1 a.positions) ((fall_exactly keys).1 a.in_order))
 
 -- Published: positions are looked for exactly where all that is asked holds.

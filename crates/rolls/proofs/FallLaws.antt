@@ -17,6 +17,10 @@ use Rattle.decimal.proofs.ComparisonLaws.{compared, compared_back}
 use Rattle.decimal.proofs.ComparisonTheorem.{order_transitive, order_itself}
 use Rattle.rolls.specs.Falling.{at_most, fall, normal_at_most, is_fallen}
 
+-- a test does not hold and not hold
+pub not_both : {B : Type 0} {b : Bool} → b ≡ true → b ≡ false → B
+not_both h g = let z : ◌≡◌ {A = ℕ} 0 1 = cc in absurd (omega arith)
+
 -- Two numbers.
 
 -- at most is transitive

@@ -13,14 +13,10 @@ use Rattle.decimal.proofs.DigitLaws.{le_or_lt}
 use Rattle.rolls.specs.Falling.{at_most, NeverFall, fall}
 use Rattle.rolls.specs.Searching.{IsFirst, first_record, first_records, giving, comparing, walk, found}
 use Rattle.rolls.specs.Finding.{Finds}
-use Rattle.rolls.proofs.FallLaws.{at_most_transitive}
+use Rattle.rolls.proofs.FallLaws.{not_both, at_most_transitive}
 use Rattle.rolls.proofs.FallTheorem.{fall_view, fall_tail, fall_exactly}
 
 -- The first record.
-
--- a test does not hold and not hold
-not_both : {B : Type 0} {b : Bool} → b ≡ true → b ≡ false → B
-not_both h g = let z : ◌≡◌ {A = ℕ} 0 1 = cc in absurd (omega arith)
 
 -- no key is
 first_none : (position : Number) → first_record [] position ≡ 0
@@ -29,12 +25,12 @@ first_none position = refl
 
 module _ (key : Number) (keys : List Number) (position : Number) where
   -- the first key is at least the position
-  first_here : at_most position key ≡ true → first_record (key ∷ keys) position ≡ 0
+  pub first_here : at_most position key ≡ true → first_record (key ∷ keys) position ≡ 0
   unfolding first_record
   first_here h = rw h
 
   -- it is not
-  first_later : at_most position key ≡ false → first_record (key ∷ keys) position ≡ suc (first_record keys position)
+  pub first_later : at_most position key ≡ false → first_record (key ∷ keys) position ≡ suc (first_record keys position)
   unfolding first_record
   first_later h = rw h
 
@@ -79,12 +75,12 @@ first_only keys position {r} {s} f g =
 
 -- The first records of a list.
 
-firsts_count : (keys ps : List Number) → length (first_records keys ps) ≡ length ps
+pub firsts_count : (keys ps : List Number) → length (first_records keys ps) ≡ length ps
 unfolding first_records
 firsts_count keys [] = refl
 firsts_count keys (p ∷ ps) = ap suc (firsts_count keys ps)
 
-firsts_at : (keys ps : List Number) (i : ℕ) → i < length ps → get_or (first_records keys ps) i 0 ≡ first_record keys (get_or ps i zero_number)
+pub firsts_at : (keys ps : List Number) (i : ℕ) → i < length ps → get_or (first_records keys ps) i 0 ≡ first_record keys (get_or ps i zero_number)
 unfolding first_records
 firsts_at keys [] i l = absurd (omega arith)
 firsts_at keys (p ∷ ps) zero l = refl

@@ -7,4 +7,13 @@ pub mod WalkLaws
 pub mod PassLaws
 pub mod SearchLaws
 pub mod AskTheorem
+pub mod MergeLaws
+pub mod MergeTheorem
+pub mod MergeWriteLaws
+pub mod MergeCallLaws
+pub mod KeyOrder
+pub mod MergePairLaws
+pub mod MergeFileLaws
+pub mod MergedTheorem
+pub mod MergeSumTheorem
 pub mod RefusalTheorem

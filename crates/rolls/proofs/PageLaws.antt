@@ -2,13 +2,46 @@
 use Rattle.std.proofs.Common.{◌≡◌, ℕ, zero, suc, ◌+◌, ◌<◌, Bool, true, false, List, [], ◌∷◌, length, drop, get_or, add-one, refl, ap, sym, ◌∙◌, arith, drop-cons}
 use Rattle.decimal.specs.declared.image.Image.{Image}
 use Rattle.decimal.specs.declared.number.Number.{Number}
-use Rattle.decimal.specs.Answer.{done, refused, ◌then◌}
+use Rattle.decimal.specs.declared.image.Sign.{Sign}
+use Rattle.decimal.specs.declared.image.Sign.TheVariants.{Unsigned, Plus, Minus}
+use Rattle.decimal.specs.Answer.{Answer, done, refused, ◌then◌, pick}
 use Rattle.decimal.specs.Number.{zero_number, normal, check_number}
 use Rattle.decimal.proofs.NumberLaws.{check_abnormal}
-use Rattle.decimal.proofs.AnswerLaws.{never, then_done}
+use Rattle.decimal.proofs.AnswerLaws.{never, never_done, then_done}
 use Rattle.codec.specs.Lists.{no_image}
+use Rattle.codec.specs.Order.{UnsignedFixed}
 use Rattle.rolls.specs.Falling.{fall}
 use Rattle.rolls.specs.Searching.{check_numbers, is_unsigned_fixed, check_kind, refuse_where, check_page}
+
+-- a test that was passed
+pub passed : (b : Bool) (number : ℕ) → pick {A = Answer (Unit {0})} b (done tt) (refused number 0) ≡ done tt → b ≡ true
+passed true number h = refl
+passed false number h = never_done h
+
+-- The first image.
+
+-- an image's kind, tested
+kind_true : (im : Image) → is_unsigned_fixed im ≡ true → UnsignedFixed im
+kind_true im h = go im.exponential refl im.sign refl
+  where
+    go : (e : Bool) → im.exponential ≡ e → (s : Sign) → im.sign ≡ s → UnsignedFixed im
+    go true k s m = let wrong : false ≡ true = sym (rw k) ∙ h in let z : ◌≡◌ {A = ℕ} 0 1 = cc in absurd (omega arith)
+    go false k Unsigned m = record { unsigned = m; fixed = k }
+    go false k Plus m = let wrong : false ≡ true = sym (rw (k, m)) ∙ h in let z : ◌≡◌ {A = ℕ} 0 1 = cc in absurd (omega arith)
+    go false k Minus m = let wrong : false ≡ true = sym (rw (k, m)) ∙ h in let z : ◌≡◌ {A = ℕ} 0 1 = cc in absurd (omega arith)
+
+kind_said : (im : Image) → UnsignedFixed im → is_unsigned_fixed im ≡ true
+kind_said im k = rw (k.fixed, k.unsigned)
+
+module _ (ims : List Image) where
+  -- the first image's kind is not refused exactly where it is unsigned fixed point
+  pub kind_told : check_kind ims ≡ done tt → UnsignedFixed (get_or ims 0 no_image)
+  unfolding check_kind
+  kind_told h = kind_true (get_or ims 0 no_image) (passed (is_unsigned_fixed (get_or ims 0 no_image)) 16 h)
+
+  pub kind_fine : UnsignedFixed (get_or ims 0 no_image) → check_kind ims ≡ done tt
+  unfolding check_kind
+  kind_fine k = rw (kind_said (get_or ims 0 no_image) k)
 
 -- Normal form.
 
@@ -50,22 +83,22 @@ module _ (ims : List Image) (ps : List Number) (falls : Bool) where
 
   module _ (normals : check_numbers 0 ps ≡ done tt) where
     -- 16
-    pub page_kind : is_unsigned_fixed (get_or ims 0 no_image) ≡ false → check_page ims ps falls ≡ refused 16 0
-    unfolding check_page check_kind ◌then◌
+    pub page_kind : {x y : ℕ} → check_kind ims ≡ refused x y → check_page ims ps falls ≡ refused x y
+    unfolding check_page ◌then◌
     page_kind k = rw (normals, k)
 
-    module _ (kind : is_unsigned_fixed (get_or ims 0 no_image) ≡ true) where
+    module _ (kind : check_kind ims ≡ done tt) where
       -- 14
       pub page_positions : fall ps ≡ true → check_page ims ps falls ≡ refused 14 0
-      unfolding check_page check_kind refuse_where ◌then◌
+      unfolding check_page refuse_where ◌then◌
       page_positions f = rw (normals, kind, f)
 
-      -- 15
-      pub page_records : fall ps ≡ false → falls ≡ true → check_page ims ps falls ≡ refused 15 0
-      unfolding check_page check_kind refuse_where ◌then◌
-      page_records f r = rw (normals, kind, f, r)
+      -- 15, or nothing
+      pub page_records : fall ps ≡ false → check_page ims ps falls ≡ refuse_where falls 15
+      unfolding check_page refuse_where ◌then◌
+      page_records f = rw (normals, kind, f)
 
       -- nothing
       pub page_fine : fall ps ≡ false → falls ≡ false → check_page ims ps falls ≡ done tt
-      unfolding check_page check_kind refuse_where ◌then◌
+      unfolding check_page refuse_where ◌then◌
       page_fine f r = rw (normals, kind, f, r)

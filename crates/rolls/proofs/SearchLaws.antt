@@ -16,7 +16,7 @@ use Rattle.rolls.proofs.PassLaws.{keys_same}
 -- What a page that is taken tells.
 
 -- a check that refuses nothing
-not_refused : (test : Bool) (number : ℕ) → refuse_where test number ≡ done tt → test ≡ false
+pub not_refused : (test : Bool) (number : ℕ) → refuse_where test number ≡ done tt → test ≡ false
 unfolding refuse_where
 not_refused true number h = never_done h
 not_refused false number h = refl

@@ -28,7 +28,7 @@ pub unity : Number
 unity = above 1 1 exponent_limit
 
 -- a file of one column ## with these bodies
-pub steps : List ℕ → List ℕ
+unfoldable pub steps : List ℕ → List ℕ
 steps bs = 1 ∷ (2 ∷ (hash_byte ∷ (hash_byte ∷ bs)))
 
 -- what is found

@@ -1,4 +1,7 @@
 pub mod Falling
 pub mod Searching
+pub mod Merging
+pub mod MergedFiles
 pub mod Finding
 pub mod KnownSearches
+pub mod KnownMerges

@@ -2,6 +2,8 @@
 #![tactic(auto)]
 
 mod falling;
+mod merging;
 mod searching;
 
+pub use merging::merge;
 pub use searching::{Found, POSITIONS, find};

@@ -8,6 +8,8 @@ ghost use Rattle.rolls.specs.Searching.{
   max_positions,
   is_unsigned_fixed,
   check_numbers,
+  check_kind,
+  refuse_where,
   check_page,
   walk,
   searching,
@@ -67,25 +69,26 @@ fn is_unsigned_fixed(image: Image) -> bool
     !image.exponential && image.sign == Sign::Unsigned
 }
 
-// Whether a page can be looked for in records that can be read: refused with 3 and the position's index, then with 16, 14, 15.
-#[tactic(auto, using(crate::proofs::PageLaws::page_abnormal, crate::proofs::PageLaws::page_kind, crate::proofs::PageLaws::page_positions, crate::proofs::PageLaws::page_records, crate::proofs::PageLaws::page_fine))]
-fn check_page(images: &[Image], positions: &[Number], falls: bool) -> Result<(), Refusal>
+// Whether the first of some images is unsigned fixed point: refused with 16.
+#[tactic(auto, unfolding(crate::specs::Searching::check_kind))]
+pub(crate) fn check_kind(images: &[Image]) -> Result<(), Refusal>
     requires { 0 < length images.now }
-    ensures { meaning result ≡ check_page images.now positions.now falls }
+    ensures { meaning result ≡ check_kind images.now }
 {
-    check_normal(positions)?;
-    if !is_unsigned_fixed(images[0]) {
-        return Err(Refusal {
-            reason: Reason::WrongKind,
-            place: 0,
-        });
+    if is_unsigned_fixed(images[0]) {
+        return Ok(());
     }
-    if positions_fall(positions) {
-        return Err(Refusal {
-            reason: Reason::PositionsFall,
-            place: 0,
-        });
-    }
+    Err(Refusal {
+        reason: Reason::WrongKind,
+        place: 0,
+    })
+}
+
+// Refuses records that fall, with 15.
+#[tactic(auto, unfolding(crate::specs::Searching::refuse_where))]
+pub(crate) fn check_records(falls: bool) -> Result<(), Refusal>
+    ensures { meaning result ≡ refuse_where falls 15 }
+{
     if falls {
         return Err(Refusal {
             reason: Reason::RecordsFall,
@@ -95,10 +98,27 @@ fn check_page(images: &[Image], positions: &[Number], falls: bool) -> Result<(),
     Ok(())
 }
 
+// Whether a page can be looked for in records that can be read: refused with 3 and the position's index, then with 16, 14, 15.
+#[tactic(auto, using(crate::proofs::PageLaws::page_abnormal, crate::proofs::PageLaws::page_kind, crate::proofs::PageLaws::page_positions, crate::proofs::PageLaws::page_records))]
+fn check_page(images: &[Image], positions: &[Number], falls: bool) -> Result<(), Refusal>
+    requires { 0 < length images.now }
+    ensures { meaning result ≡ check_page images.now positions.now falls }
+{
+    check_normal(positions)?;
+    check_kind(images)?;
+    if positions_fall(positions) {
+        return Err(Refusal {
+            reason: Reason::PositionsFall,
+            place: 0,
+        });
+    }
+    check_records(falls)
+}
+
 // Reads all records of a file, each once: refused with 7 and the column within the first bad record. Tells whether they fall, and walks:
 // compares the current position with the current record, goes to the next position if the record is at least as large, else to the next
 // record, and ends when either runs out; positions left over take the record count.
-fn walk(file: &[u8], table: &Contents, positions: &[Number]) -> Result<Walked, Refusal>
+pub(crate) fn walk(file: &[u8], table: &Contents, positions: &[Number]) -> Result<Walked, Refusal>
     requires { (done table.now ≡ mapped contents_of (read_file file.now)) × (length positions.now ≤ max_positions) }
     ensures falls { mapped falls_in (meaning result) ≡ mapped fall (keys_read file.now) }
     ensures found { check_numbers 0 positions.now ≡ done tt → mapped found_in (meaning result) ≡ mapped (walk 0 positions.now) (keys_read file.now) }

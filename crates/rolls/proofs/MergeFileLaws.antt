@@ -1,0 +1,110 @@
+-- Laws of a file that is made of a contents and bodies, and of the keys of bodies that are read. Assumes nothing.
+use Rattle.std.proofs.Common.{◌≡◌, ℕ, ◌-◌, ◌*◌, ◌/◌, ◌%◌, List, [], ◌∷◌, length, length-append, map, get_or, drop, refl, ap, ap₂, sym, ◌∙◌, arith, zero-mul}
+use lib.Seq.{length-take-le, take_at, drop_at}
+use lib.ListN.{length-drop}
+use native.Mathlib.Nat.{suc-mul}
+use Rattle.std.proofs.Math.Nat.{mul-div_cancel, mul-mod_left}
+use Rattle.std.specs.List.{concat}
+use Rattle.decimal.specs.declared.image.Image.{Image}
+use Rattle.decimal.specs.declared.number.Number.{Number}
+use Rattle.decimal.specs.Answer.{Answer, done, ◌then◌, given}
+use Rattle.decimal.specs.Number.{zero_number}
+use Rattle.decimal.proofs.AnswerLaws.{one_answer}
+use Rattle.codec.specs.Columns.{body_size}
+use Rattle.codec.specs.Contents.{Table}
+use Rattle.codec.specs.Unpacking.{unpack_body}
+use Rattle.codec.proofs.FrontLaws.{contents_front}
+use Rattle.codec.proofs.ReadBackTheorem.{body_view}
+use Rattle.records.specs.Files.{read_file, record_count, bodies, bodies_in}
+use Rattle.records.proofs.FileLaws.{file_done, file_told}
+use Rattle.rolls.specs.Searching.{keys_of}
+use Rattle.rolls.specs.Merging.{key_of, contents_in, file_with}
+use Rattle.rolls.proofs.MergeLaws.{Each, each_so, each_first, each_others}
+use Rattle.rolls.proofs.MergePairLaws.{BodyRead, each_read}
+
+-- Bodies of one size, joined.
+
+-- a body has this size
+abbrev pub Sized : ℕ → List ℕ → Type 0
+Sized size b = length b ≡ size
+
+module _ (size : ℕ) where
+  pub joined_length : (bs : List (List ℕ)) → Each (Sized size) bs → length (concat bs) ≡ length bs * size
+  joined_length [] e = sym (zero-mul size)
+  joined_length (b ∷ bs) e =
+      length-append b (concat bs) ∙ omega (arith, each_first e, joined_length bs (each_others e), suc-mul (length bs) size)
+
+  -- they are taken off it again
+  pub joined_bodies : (bs : List (List ℕ)) → Each (Sized size) bs → bodies (length bs) size (concat bs) ≡ bs
+  unfolding bodies
+  joined_bodies [] e = refl
+  joined_bodies (b ∷ bs) e =
+      ap₂ (λ (x : List ℕ) (y : List (List ℕ)). x ∷ y)
+      (take_at b (concat bs) size (each_first e))
+      (ap (bodies (length bs) size) (drop_at b (concat bs) size (each_first e)) ∙ joined_bodies bs (each_others e))
+
+-- A file made of the contents of another and bodies.
+
+module _ (file : List ℕ) {table : Table} (reads : read_file file ≡ done table) (bs : List (List ℕ)) (sized : Each (Sized (body_size table.images)) bs) where
+  abbrev made : List ℕ
+  made = file_with (contents_in table file) bs
+
+  -- the contents has its length
+  front_length : length (contents_in table file) ≡ table.size
+  front_length = length-take-le table.size file (file_told file reads).within
+
+  -- it stands at the front
+  pub made_contents : contents_in table made ≡ contents_in table file
+  made_contents = take_at (contents_in table file) (concat bs) table.size front_length
+
+  -- and the bodies behind it
+  pub made_behind : drop table.size made ≡ concat bs
+  made_behind = drop_at (contents_in table file) (concat bs) table.size front_length
+
+  -- as many bytes as bodies
+  behind_length : length made - table.size ≡ length bs * body_size table.images
+  behind_length = sym (length-drop table.size made) ∙ ap length made_behind ∙ joined_length (body_size table.images) bs sized
+
+  -- so it is a file with the same contents,
+  pub made_reads : read_file made ≡ done table
+  made_reads =
+      file_done made (contents_front file (concat bs) (file_told file reads).contents)
+      (ap (λ (n : ℕ). n % body_size table.images) behind_length ∙ mul-mod_left (length bs) (body_size table.images))
+
+  -- of as many records,
+  pub made_count : record_count table made ≡ length bs
+  unfolding record_count
+  made_count =
+      ap (λ (n : ℕ). n / body_size table.images) behind_length ∙ mul-div_cancel (length bs) (file_told file reads).some
+
+  -- which have these bodies
+  pub made_bodies : bodies_in table made ≡ bs
+  unfolding bodies_in
+  made_bodies =
+      ap₂ (λ (n : ℕ) (l : List ℕ). bodies n (body_size table.images) l) made_count made_behind
+      ∙ joined_bodies (body_size table.images) bs sized
+
+-- Bodies that are read.
+
+module _ (ims : List Image) where
+  -- they have the size
+  pub read_sized : (bs : List (List ℕ)) → Each (BodyRead ims) bs → Each (Sized (body_size ims)) bs
+  read_sized bs e = each_so (λ b r. (body_view ims b r.reads).0) e
+
+  -- the key is the first number that is read
+  pub key_read : (b : List ℕ) {ns : List Number} → unpack_body ims b ≡ done ns → key_of ims b ≡ get_or ns 0 zero_number
+  unfolding key_of given
+  key_read b h = ap (λ (a : Answer (List Number)). get_or (given a) 0 zero_number) h
+
+  -- and keys
+  pub keys_read_of : (bs : List (List ℕ)) → Each (BodyRead ims) bs → keys_of ims bs ≡ done (map (key_of ims) bs)
+  unfolding keys_of ◌then◌
+  keys_read_of [] e = refl
+  keys_read_of (b ∷ bs) e =
+      let r = each_first e in
+      rw (r.reads, keys_read_of bs (each_others e))
+      (ap (λ (k : Number). done (k ∷ map (key_of ims) bs)) (sym (key_read b r.reads)))
+
+  -- so the keys that are read are those
+  pub keys_are : (bs : List (List ℕ)) {keys : List Number} → keys_of ims bs ≡ done keys → keys ≡ map (key_of ims) bs
+  keys_are bs h = one_answer h (keys_read_of bs (each_read ims bs h))

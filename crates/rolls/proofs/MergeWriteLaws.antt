@@ -1,0 +1,199 @@
+-- Laws of the loop that writes merged records: the bodies that are left of each file, and what is written before them. Assumes nothing.
+use Rattle.std.proofs.Common.{◌≡◌, ℕ, zero, suc, ◌+◌, ◌-◌, ◌*◌, ◌/◌, ◌%◌, ◌<◌, ◌≤◌, true, false, List, [], ◌∷◌, ◌++◌, length, length-append, ◌⊎◌, inl, inr, take, drop, refl, ap, ap₂, sym, ◌∙◌, arith, append_assoc, append-nil, zero-mul}
+use lib.Seq.{take_at, length-take-le}
+use lib.ListN.{length-drop, drop_of_length-le}
+use borrow.Rule.Slice.PartMut.{put_mid}
+use Rattle.std.proofs.lemmas.List.{take-append-drop, nil_from_length}
+use native.Mathlib.Nat.{div-add-mod', suc-mul}
+use Rattle.std.proofs.Math.Nat.{mul-div_cancel}
+use Rattle.std.specs.List.{concat}
+use Rattle.codec.specs.Answers.{written}
+use Rattle.codec.proofs.BufferLaws.{part_written, written_length, written_next}
+use Rattle.records.specs.Files.{bodies}
+use Rattle.records.proofs.BodiesLaws.{bodies_ahead}
+use Rattle.rolls.specs.Merging.{merged, all_bodies, not_behind}
+use borrow.Author.Tests.{eq-eqb}
+use lib.Dec.{eqb}
+use Rattle.rolls.proofs.FallLaws.{not_both}
+use Rattle.rolls.proofs.MergeLaws.{merged_none, none_merged, merged_first, merged_second}
+
+-- bytes that are bodies of one size, one behind the other
+pub record Filled (size : ℕ) (bytes : List ℕ) : Type 0 where
+  pub count : ℕ
+  pub fills : length bytes ≡ count * size
+
+-- where nothing is left over
+pub filled_whole : (size : ℕ) (bytes : List ℕ) → length bytes % size ≡ 0 → Filled size bytes
+filled_whole size bytes h = record { count = length bytes / size; fills = let split = div-add-mod' (length bytes) size in omega arith }
+
+module _ {size : ℕ} (some : 0 < size) where
+  -- their count
+  pub filled_count : {bytes : List ℕ} (f : Filled size bytes) → length bytes / size ≡ f.count
+  filled_count f = ap (λ (n : ℕ). n / size) f.fills ∙ mul-div_cancel f.count some
+
+  -- one is there where bytes are
+  pub filled_some : {bytes : List ℕ} → Filled size bytes → eqb (length bytes) 0 ≡ false → size ≤ length bytes
+  filled_some {bytes} f n = go f.count f.fills
+    where
+      go : (count : ℕ) → length bytes ≡ count * size → size ≤ length bytes
+      go zero h = not_both (eq-eqb (length bytes) 0 (h ∙ zero-mul size)) n
+      go (suc k) h = omega (arith, h, suc-mul k size)
+
+  -- none are no bodies
+  pub filled_none : (bytes : List ℕ) → length bytes ≡ 0 → all_bodies size bytes ≡ []
+  unfolding bodies
+  filled_none bytes h =
+      ap (λ (n : ℕ). bodies n size bytes) (ap (λ (n : ℕ). n / size) (h ∙ sym (zero-mul size)) ∙ mul-div_cancel 0 some)
+
+  -- the first of them, and the others
+  pub record Next (bytes : List ℕ) : Type 0 where
+    pub sized : length (take size bytes) ≡ size
+    pub others : Filled size (drop size bytes)
+    pub splits : all_bodies size bytes ≡ take size bytes ∷ all_bodies size (drop size bytes)
+    pub less : length (drop size bytes) + size ≡ length bytes
+
+  pub filled_next : {bytes : List ℕ} → Filled size bytes → eqb (length bytes) 0 ≡ false → Next bytes
+  filled_next {bytes} f n =
+      let room = filled_some f n in
+      let sized : length (take size bytes) ≡ size = length-take-le size bytes room in
+      let same = take-append-drop size bytes in
+      let a = bodies_ahead size f.count (take size bytes) (drop size bytes) some (ap length same ∙ f.fills) sized in
+      let rest : Filled size (drop size bytes) = record { count = a.others; fills = a.reaches } in
+      record {
+        sized = sized;
+        others = rest;
+        splits =
+            ap₂ (λ (n : ℕ) (l : List ℕ). bodies n size l) (filled_count f) (sym same)
+            ∙ a.splits
+            ∙ ap (λ (n : ℕ). take size bytes ∷ bodies n size (drop size bytes)) (sym (filled_count rest));
+        less = omega (arith, length-drop size bytes);
+      }
+
+  -- all of them joined are the bytes
+  joined_all : (count : ℕ) (bytes : List ℕ) → length bytes ≡ count * size → concat (bodies count size bytes) ≡ bytes
+  unfolding bodies
+  joined_all zero bytes h = sym (nil_from_length bytes (h ∙ zero-mul size))
+  joined_all (suc n) bytes h =
+      ap (λ (l : List ℕ). take size bytes ++ l) (joined_all n (drop size bytes) (omega (arith, length-drop size bytes, suc-mul n size)))
+      ∙ take-append-drop size bytes
+
+  pub filled_joined : {bytes : List ℕ} → Filled size bytes → concat (all_bodies size bytes) ≡ bytes
+  filled_joined {bytes} f = ap (λ (n : ℕ). concat (bodies n size bytes)) (filled_count f) ∙ joined_all f.count bytes f.fills
+
+-- The loop: what is written, and the bodies that are left of both files merged, are the whole.
+pub record Writing (size column : ℕ) (all first second target : List ℕ) (at : ℕ) : Type 0 where
+  pub one : Filled size first
+  pub two : Filled size second
+  pub room : at + (length first + length second) ≡ length target
+  pub whole : take at target ++ concat (merged (not_behind column) (all_bodies size first) (all_bodies size second)) ≡ all
+
+-- at the start
+pub writing_starts :
+    {size : ℕ} (column : ℕ) {first second target : List ℕ}
+    → length first % size ≡ 0
+    → length second % size ≡ 0
+    → length target ≡ length first + length second
+    → Writing size column (concat (merged (not_behind column) (all_bodies size first) (all_bodies size second))) first second target 0
+writing_starts {size} column {first} {second} h g room =
+    record { one = filled_whole size first h; two = filled_whole size second g; room = omega arith; whole = refl }
+
+module _ {size column : ℕ} {all first second target : List ℕ} {at : ℕ} (w : Writing size column all first second target at) (some : 0 < size) where
+  -- a body more is written, which goes before what is left then
+  body_written :
+      (body : List ℕ) {part left other : List ℕ}
+      → length body ≡ size
+      → part ≡ body
+      → Filled size left
+      → Filled size other
+      → size + (length left + length other) ≡ length first + length second
+      → merged (not_behind column) (all_bodies size first) (all_bodies size second) ≡ body ∷ merged (not_behind column) (all_bodies size left) (all_bodies size other)
+      → Writing size column all left other (put_mid at (at + size - at) target part) (at + size)
+  unfolding written
+  body_written body {part} {left} {other} sized same one two lengths next =
+      let room : at + size ≤ length target = omega (arith, w.room, lengths) in
+      let zs : List (List ℕ) = merged (not_behind column) (all_bodies size left) (all_bodies size other) in
+      let now : put_mid at (at + size - at) target part ≡ written target at body = part_written target at (at + size - at) same (omega arith) in
+      let front : take (at + size) (written target at body) ≡ take at target ++ body =
+      take_at (take at target ++ body) (drop (at + length body) target) (at + size)
+      (length-append (take at target) body ∙ omega (arith, length-take-le at target (omega arith))) in
+      record {
+        one = one;
+        two = two;
+        room = omega (arith, w.room, lengths, ap length now, written_length target at body (omega arith));
+        whole =
+            ap (λ (l : List ℕ). take (at + size) l ++ concat zs) now
+            ∙ ap (λ (l : List ℕ). l ++ concat zs) front
+            ∙ append_assoc (take at target) body (concat zs)
+            ∙ ap (λ (bs : List (List ℕ)). take at target ++ concat bs) (sym next)
+            ∙ w.whole;
+      }
+
+  module _ (first_some : eqb (length first) 0 ≡ false) (second_some : eqb (length second) 0 ≡ false) where
+    -- the first body of either file
+    one : Next some first
+    one = filled_next some w.one first_some
+
+    two : Next some second
+    two = filled_next some w.two second_some
+
+    -- the first file's body is written
+    pub writing_first :
+        {part behind : List ℕ}
+        → part ≡ take size first
+        → behind ≡ drop size first
+        → not_behind column (take size first) (take size second) ≡ true
+        → Writing size column all behind second (put_mid at (at + size - at) target part) (at + size)
+    writing_first same left h =
+        rw left
+        (body_written (take size first) one.sized same one.others w.two (omega (arith, one.less))
+        (ap₂ (merged (not_behind column)) one.splits two.splits
+        ∙ merged_first (not_behind column) (all_bodies size (drop size first)) (all_bodies size (drop size second)) h
+        ∙ ap (λ (bs : List (List ℕ)). take size first ∷ merged (not_behind column) (all_bodies size (drop size first)) bs) (sym two.splits)))
+
+    -- the second's is
+    pub writing_second :
+        {part behind : List ℕ}
+        → part ≡ take size second
+        → behind ≡ drop size second
+        → not_behind column (take size first) (take size second) ≡ false
+        → Writing size column all first behind (put_mid at (at + size - at) target part) (at + size)
+    writing_second same left h =
+        rw left
+        (body_written (take size second) two.sized same w.one two.others (omega (arith, two.less))
+        (ap₂ (merged (not_behind column)) one.splits two.splits
+        ∙ merged_second (not_behind column) (all_bodies size (drop size first)) (all_bodies size (drop size second)) h
+        ∙ ap (λ (bs : List (List ℕ)). take size second ∷ merged (not_behind column) bs (all_bodies size (drop size second))) (sym one.splits)))
+
+  -- where one file has no more, the other's bodies are the rest
+  writing_ends : (length first ≡ 0) ⊎ (length second ≡ 0) → take at target ++ (first ++ second) ≡ all
+  writing_ends (inl h) =
+      ap (λ (l : List ℕ). take at target ++ l)
+      (ap (λ (l : List ℕ). l ++ second) (nil_from_length first h)
+      ∙ sym (ap concat (ap (λ (bs : List (List ℕ)). merged (not_behind column) bs (all_bodies size second)) (filled_none some _ h) ∙ none_merged (not_behind column) (all_bodies size second)) ∙ filled_joined some w.two))
+      ∙ w.whole
+  writing_ends (inr h) =
+      ap (λ (l : List ℕ). take at target ++ l)
+      (ap (λ (l : List ℕ). first ++ l) (nil_from_length second h) ∙ append-nil first
+      ∙ sym (ap concat (ap (merged (not_behind column) (all_bodies size first)) (filled_none some _ h) ∙ merged_none (not_behind column) (all_bodies size first)) ∙ filled_joined some w.one))
+      ∙ w.whole
+
+  -- and they are written behind what is written, those of the first file and those of the second
+  pub writing_tail :
+      {part more : List ℕ}
+      → part ≡ first
+      → more ≡ second
+      → (length first ≡ 0) ⊎ (length second ≡ 0)
+      → put_mid (at + length first) (length (put_mid at (at + length first - at) target part) - (at + length first)) (put_mid at (at + length first - at) target part) more ≡ all
+  unfolding written
+  writing_tail {part} {more} same next end =
+      let m : ℕ = at + length first in
+      let now : List ℕ = put_mid at (m - at) target part in
+      let one : now ≡ written target at first = part_written target at (m - at) same (omega arith) in
+      let long : length now ≡ length target = ap length one ∙ written_length target at first (omega (arith, w.room)) in
+      let none : drop (at + length (first ++ second)) target ≡ [] = drop_of_length-le target (omega (arith, w.room, length-append first second)) in
+      part_written now m (length now - m) next (omega (arith, long, w.room))
+      ∙ ap (λ (l : List ℕ). written l m second) one
+      ∙ written_next target at first second (omega (arith, w.room))
+      ∙ ap (λ (l : List ℕ). (take at target ++ (first ++ second)) ++ l) none
+      ∙ append-nil (take at target ++ (first ++ second))
+      ∙ writing_ends end
