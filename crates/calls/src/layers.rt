@@ -268,3 +268,14 @@ pub(crate) fn truncate(
         Ok(image) => print_truncation(out, image, number_in(number), place),
     }
 }
+
+// merge BUFFER FIRST SECOND
+pub(crate) fn merge(
+    out: &mut impl Write,
+    buffer: &mut [u8],
+    first: &[u8],
+    second: &[u8],
+) -> io::Result<()> {
+    let answer = rolls::merge(first, second, &mut *buffer);
+    print_written(out, answer, &*buffer)
+}

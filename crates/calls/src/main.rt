@@ -49,6 +49,7 @@ fn make(
         b"list" => layers::list(out, first, second),
         b"report" => layers::report(out, first, second),
         b"find" => layers::find(out, &*first, second),
+        b"merge" => layers::merge(out, first, second, third),
         _ => out.write_all(b"?"),
     }
 }

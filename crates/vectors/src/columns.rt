@@ -2,7 +2,7 @@
 // takes, so that this program makes none.
 use crate::scaled::Scaled;
 use crate::shown::{
-    ROOM, print_answer, print_hexadecimal, print_number, print_remainder, print_text,
+    ROOM, print_answer, print_hexadecimal, print_number, print_remainder, print_text, print_written,
 };
 use codec::{Numbers, written_part};
 use decimal::{Number, Remainder};
@@ -26,14 +26,11 @@ fn print_alpha<W: Write>(out: &mut W, image: &[u8], number: Number) -> io::Resul
     })
 }
 
-// Packs a number under a contents, and writes the body. No print_answer, since a blank stands before a refusal too.
+// Packs a number under a contents, and writes the body, or the refusal.
 fn print_packed(out: &mut impl Write, contents: &[u8], number: Number) -> io::Result<()> {
     let mut buffer = [0u8; ROOM];
     let answer = codec::pack(contents, &[number], &mut buffer);
-    match answer {
-        Err(refusal) => write!(out, " {refusal}"),
-        Ok(_) => print_hexadecimal(out, written_part(answer, &buffer)),
-    }
+    print_written(out, answer, &buffer)
 }
 
 // Writes a row: an image, a number, and what is printed of that number, or the refusal.

@@ -7,6 +7,7 @@
 
 mod columns;
 mod lines;
+mod merges;
 mod pages;
 mod scaled;
 mod shown;
@@ -14,6 +15,7 @@ mod texts;
 
 use crate::columns::{body_row, cut_row, image_row, size_row};
 use crate::lines::{fields_row, line_row};
+use crate::merges::merge_row;
 use crate::pages::page_row;
 use crate::scaled::{minus, plus};
 use crate::texts::{long_row, read_row, text_row};
@@ -247,6 +249,67 @@ fn split(out: &mut impl Write) -> io::Result<()> {
     image_row(out, b"\x01\x0d#########^^^^", plus(3456789012345, 0, 4))
 }
 
+// Document 02, (vi): files merged. The second column of the first rows tells the camera.
+fn merged(out: &mut impl Write) -> io::Result<()> {
+    // Each camera's records in order; on equal first columns those of the file named first stand first, whole records equal ones too.
+    merge_row(
+        out,
+        b"\x02\x02##\x01#\x05\x10\x12\x10\x12\x00\x99\x10",
+        b"\x02\x02##\x01#\x00\x20\x12\x20\x12\x00\x34\x20\x99\x20",
+    )?;
+    merge_row(
+        out,
+        b"\x02\x02##\x01#\x00\x20\x12\x20\x12\x00\x34\x20\x99\x20",
+        b"\x02\x02##\x01#\x05\x10\x12\x10\x12\x00\x99\x10",
+    )?;
+    // No records in one file, or in both.
+    merge_row(
+        out,
+        b"\x02\x02##\x01#\x05\x10\x12\x10\x12\x00\x99\x10",
+        b"\x02\x02##\x01#",
+    )?;
+    merge_row(
+        out,
+        b"\x02\x02##\x01#",
+        b"\x02\x02##\x01#\x00\x20\x12\x20\x12\x00\x34\x20\x99\x20",
+    )?;
+    merge_row(out, b"\x02\x02##\x01#", b"\x02\x02##\x01#")?;
+    // One column: the same record more than once in one file and in both.
+    merge_row(
+        out,
+        b"\x01\x02##\x05\x05\x12",
+        b"\x01\x02##\x05\x12\x12\x13",
+    )
+}
+
+// Document 02, (vi): files that are refused.
+fn not_merged(out: &mut impl Write) -> io::Result<()> {
+    // Contents that differ in a length, in a point's place and in the count of columns.
+    merge_row(out, b"\x01\x01#\x10", b"\x01\x02##\x10")?;
+    merge_row(out, b"\x01\x04##.#\x01\x20", b"\x01\x04#.##\x01\x20")?;
+    merge_row(
+        out,
+        b"\x02\x02##\x01#\x05\x10\x12\x10\x12\x00\x99\x10",
+        b"\x01\x02##\x05\x12",
+    )?;
+    // A first column of another kind, signed and exponential.
+    merge_row(out, b"\x01\x02+#\x05\x03", b"\x01\x02+#")?;
+    merge_row(out, b"\x01\x05#^^^^\x50\x00", b"\x01\x05#^^^^\x50\x00")?;
+    // Records that fall, in the first file and in the second; behind contents that differ.
+    merge_row(out, b"\x01\x02##\x05\x12\x11", b"\x01\x02##\x05\x12")?;
+    merge_row(out, b"\x01\x02##\x05\x12", b"\x01\x02##\x05\x12\x11")?;
+    merge_row(out, b"\x01\x02##\x05\x12\x11", b"\x01\x02+#\x05\x03")?;
+    merge_row(out, b"\x01\x02+#\x05\x03", b"\x01\x02##\x05\x12\x11")?;
+    // A bad half of the second file comes before contents that differ, and before records of the first that fall.
+    merge_row(out, b"\x01\x02##\x05\x12", b"\x01\x01#\x1a")?;
+    merge_row(out, b"\x01\x02##\x05\x12\x11", b"\x01\x02##\x05\xa0")?;
+    // The first file's refusal comes before the second's: a bad half, a part of a body, too many columns. Then the second's alone.
+    merge_row(out, b"\x02\x01#\x01#\x10\x10\x20\x2a", b"\x01\x02#")?;
+    merge_row(out, b"\x01\x03###\x01\x20\x01", b"\x00")?;
+    merge_row(out, b"\x11\x01#", b"\x01\x01x")?;
+    merge_row(out, b"\x01\x02##\x05\x12", b"\x00")
+}
+
 // Known values printed, both marked *.
 fn known_lines(out: &mut impl Write) -> io::Result<()> {
     line_row(out, b"#,###.#", b"34")?;
@@ -376,6 +439,8 @@ fn print_rows(out: &mut impl Write) -> io::Result<()> {
     found(out)?;
     split(out)?;
     spaced(out)?;
+    merged(out)?;
+    not_merged(out)?;
     known_lines(out)?;
     printed_lines(out)?;
     earlier_lines(out)?;

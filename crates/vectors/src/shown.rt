@@ -1,9 +1,10 @@
 // Small writers to an output.
+use codec::written_part;
 use decimal::{EXPONENT_LIMIT, Number, Refusal, Remainder, SCALE};
 use std::io;
 use std::io::Write;
 
-// The room for a text, a body or a print: no row needs more.
+// The room for a text, a body, a print or a merged file: no row needs more.
 pub(crate) const ROOM: usize = 256;
 
 // The sign that stands before a number.
@@ -56,6 +57,18 @@ pub(crate) fn print_hexadecimal(out: &mut impl Write, bytes: &[u8]) -> io::Resul
         write!(out, " {byte:02x}")?;
     }
     Ok(())
+}
+
+// Writes the written part of a buffer in hexadecimal, or the refusal, a blank before each byte and before the refusal.
+pub(crate) fn print_written(
+    out: &mut impl Write,
+    answer: Result<usize, Refusal>,
+    buffer: &[u8],
+) -> io::Result<()> {
+    match answer {
+        Err(refusal) => write!(out, " {refusal}"),
+        Ok(_) => print_hexadecimal(out, written_part(answer, buffer)),
+    }
 }
 
 // Writes a printed text between quotes; a line end closes the quotes, and opens them again for the next line.
