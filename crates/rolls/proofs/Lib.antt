@@ -9,11 +9,12 @@ pub mod SearchLaws
 pub mod AskTheorem
 pub mod MergeLaws
 pub mod MergeTheorem
-pub mod MergeWriteLaws
-pub mod MergeCallLaws
 pub mod KeyOrder
-pub mod MergePairLaws
+pub mod FilledLaws
+pub mod MergeWriteLaws
 pub mod MergeFileLaws
+pub mod MergeCallLaws
+pub mod MergePairLaws
 pub mod MergedTheorem
 pub mod MergeSumTheorem
 pub mod RefusalTheorem

@@ -1,8 +1,7 @@
 -- Laws of a file that is made of a contents and bodies, and of the keys of bodies that are read. Assumes nothing.
-use Rattle.std.proofs.Common.{◌≡◌, ℕ, ◌-◌, ◌*◌, ◌/◌, ◌%◌, List, [], ◌∷◌, length, length-append, map, get_or, drop, refl, ap, ap₂, sym, ◌∙◌, arith, zero-mul}
+use Rattle.std.proofs.Common.{◌≡◌, ℕ, ◌-◌, ◌*◌, ◌/◌, ◌%◌, List, [], ◌∷◌, length, map, get_or, drop, refl, ap, ap₂, sym, ◌∙◌}
 use lib.Seq.{length-take-le, take_at, drop_at}
 use lib.ListN.{length-drop}
-use native.Mathlib.Nat.{suc-mul}
 use Rattle.std.proofs.Math.Nat.{mul-div_cancel, mul-mod_left}
 use Rattle.std.specs.List.{concat}
 use Rattle.decimal.specs.declared.image.Image.{Image}
@@ -20,28 +19,8 @@ use Rattle.records.proofs.FileLaws.{file_done, file_told}
 use Rattle.rolls.specs.Searching.{keys_of}
 use Rattle.rolls.specs.Merging.{key_of, contents_in, file_with}
 use Rattle.rolls.proofs.MergeLaws.{Each, each_so, each_first, each_others}
-use Rattle.rolls.proofs.MergePairLaws.{BodyRead, each_read}
-
--- Bodies of one size, joined.
-
--- a body has this size
-abbrev pub Sized : ℕ → List ℕ → Type 0
-Sized size b = length b ≡ size
-
-module _ (size : ℕ) where
-  pub joined_length : (bs : List (List ℕ)) → Each (Sized size) bs → length (concat bs) ≡ length bs * size
-  joined_length [] e = sym (zero-mul size)
-  joined_length (b ∷ bs) e =
-      length-append b (concat bs) ∙ omega (arith, each_first e, joined_length bs (each_others e), suc-mul (length bs) size)
-
-  -- they are taken off it again
-  pub joined_bodies : (bs : List (List ℕ)) → Each (Sized size) bs → bodies (length bs) size (concat bs) ≡ bs
-  unfolding bodies
-  joined_bodies [] e = refl
-  joined_bodies (b ∷ bs) e =
-      ap₂ (λ (x : List ℕ) (y : List (List ℕ)). x ∷ y)
-      (take_at b (concat bs) size (each_first e))
-      (ap (bodies (length bs) size) (drop_at b (concat bs) size (each_first e)) ∙ joined_bodies bs (each_others e))
+use Rattle.rolls.proofs.AskTheorem.{keys_view}
+use Rattle.rolls.proofs.FilledLaws.{Sized, joined_length, joined_bodies}
 
 -- A file made of the contents of another and bodies.
 
@@ -85,6 +64,16 @@ module _ (file : List ℕ) {table : Table} (reads : read_file file ≡ done tabl
       ∙ joined_bodies (body_size table.images) bs sized
 
 -- Bodies that are read.
+
+-- a body that is read
+pub record BodyRead (ims : List Image) (body : List ℕ) : Type 0 where
+  pub numbers : List Number
+  pub reads : unpack_body ims body ≡ done numbers
+
+-- where keys are read, each body is
+pub each_read : (ims : List Image) (bs : List (List ℕ)) {keys : List Number} → keys_of ims bs ≡ done keys → Each (BodyRead ims) bs
+each_read ims [] h = Each.none
+each_read ims (b ∷ bs) h = let v = keys_view ims b bs h in Each.more (record { numbers = v.numbers; reads = v.reads }) (each_read ims bs v.rest)
 
 module _ (ims : List Image) where
   -- they have the size

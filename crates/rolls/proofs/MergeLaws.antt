@@ -1,5 +1,6 @@
 -- Laws of records merged by a test, for any test: an induction over the two lists, and what holds of each record. Assumes nothing.
-use Rattle.std.proofs.Common.{◌≡◌, ℕ, ◌+◌, Bool, true, false, List, [], ◌∷◌, length, refl, ap, sym, ◌∙◌, arith}
+use Rattle.std.proofs.Common.{◌≡◌, ℕ, ◌+◌, Bool, true, false, List, [], ◌∷◌, length, length-append, refl, ap, sym, ◌∙◌, arith}
+use Rattle.std.specs.List.{concat}
 use Rattle.rolls.specs.Merging.{merged}
 
 -- each body of a list has a property
@@ -99,3 +100,16 @@ merged_alike {P} goes does alike =
     (λ x xs y ys h r e f.
     ap (λ (zs : List (List ℕ)). y ∷ zs) (r e (each_others f))
     ∙ sym (merged_second does xs ys (sym (alike x y (each_first e) (each_first f)) ∙ h)))
+
+-- The lengths of what is merged.
+
+-- a list of bodies joined
+joined_more : (b : List ℕ) (bs : List (List ℕ)) → length (concat (b ∷ bs)) ≡ length b + length (concat bs)
+joined_more b bs = length-append b (concat bs)
+
+-- merged lists have the bytes of both
+pub merged_joined : (goes : List ℕ → List ℕ → Bool) (xs ys : List (List ℕ)) → length (concat (merged goes xs ys)) ≡ length (concat xs) + length (concat ys)
+merged_joined goes =
+    merged_by goes (λ xs ys zs. length (concat zs) ≡ length (concat xs) + length (concat ys)) (λ ys. omega arith) (λ x xs. omega arith)
+    (λ x xs y ys h r. omega (arith, r, joined_more x (merged goes xs (y ∷ ys)), joined_more x xs))
+    (λ x xs y ys h r. omega (arith, r, joined_more y (merged goes (x ∷ xs) ys), joined_more y ys))

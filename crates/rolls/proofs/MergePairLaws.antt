@@ -1,39 +1,29 @@
--- Laws of the call that merges: its refusals in order, and the file that it makes of two that it takes. Assumes nothing.
-use Rattle.std.proofs.Common.{◌≡◌, ℕ, zero, suc, ◌+◌, ◌/◌, ◌%◌, ◌<◌, ◌≤◌, Bool, true, false, not, ◌||◌, List, [], ◌∷◌, length, length-append, get_or, take, drop, refl, ap, ap₂, sym, subst, ◌∙◌, arith}
+-- Laws of the call that merges: the contents of two files, and the file that it makes of them. Assumes nothing.
+use Rattle.std.proofs.Common.{◌≡◌, ℕ, ◌+◌, ◌%◌, ◌<◌, ◌≤◌, ◌||◌, List, [], ◌∷◌, length, length-append, get_or, take, drop, ap, ap₂, sym, subst, ◌∙◌, arith}
 use lib.Seq.{length-take-le}
 use lib.ListN.{length-drop}
 use Rattle.std.specs.List.{concat}
-use Rattle.std.specs.Prelude.{bytes_eq}
-use Rattle.std.proofs.lemmas.Slice.Eq.{bytes_eq-Decides}
 use borrow.Author.Tests.{lt-ltb, le-ltb}
 use Rattle.decimal.specs.declared.image.Image.{Image}
-use Rattle.decimal.specs.declared.number.Number.{Number}
 use Rattle.decimal.specs.Answer.{Answer, done, refused, ◌then◌, mapped}
-use Rattle.decimal.proofs.AnswerLaws.{one_answer, done_same, then_done, then_last, mapped_back, mapped_refused_back}
+use Rattle.decimal.proofs.AnswerLaws.{done_same, then_done, then_last, mapped_back, mapped_refused_back}
 use Rattle.codec.specs.Answers.{within}
 use Rattle.codec.specs.declared.contents.Contents.{Contents}
 use Rattle.codec.specs.Columns.{column_size, body_size, Checked, AllChecked, more}
-use Rattle.codec.specs.Contents.{Table, read_alone, contents_of}
+use Rattle.codec.specs.Contents.{Table, contents_of}
 use Rattle.codec.specs.Lists.{no_image}
 use Rattle.codec.specs.Order.{UnsignedFixed, Bytes}
-use Rattle.codec.specs.Unpacking.{unpack_body}
 use Rattle.codec.proofs.ContentsLaws.{contents_sound}
-use Rattle.codec.proofs.FrontLaws.{contents_alone}
-use Rattle.codec.proofs.ReadBackTheorem.{bytes_take, bytes_drop}
-use Rattle.records.specs.Files.{read_file, record_count, bodies, bodies_in}
+use Rattle.codec.proofs.ReadBackTheorem.{bytes_take}
+use Rattle.records.specs.Files.{read_file, bodies_in}
 use Rattle.records.proofs.FileLaws.{file_told}
 use Rattle.rolls.specs.declared.merging.Whole.{Whole}
-use Rattle.rolls.specs.Falling.{fall}
-use Rattle.rolls.specs.Searching.{keys_of, keys_in, check_kind, refuse_where}
 use Rattle.rolls.specs.Merging.{WholeFile, read_whole, whole_of, contents_in, check_pair, common_table, key_of, by_key, merged, file_with, merged_file, merging, all_bodies, not_behind}
 use Rattle.rolls.specs.MergedFiles.{Mergeable}
-use Rattle.rolls.proofs.FallTheorem.{fall_exactly}
-use Rattle.rolls.proofs.FallLaws.{not_both}
-use Rattle.rolls.proofs.AskTheorem.{keys_view}
-use Rattle.rolls.proofs.PageLaws.{kind_told}
-use Rattle.rolls.proofs.SearchLaws.{not_refused}
-use Rattle.rolls.proofs.MergeLaws.{Each, each_first, each_others, merged_alike, merged_by}
-use Rattle.rolls.proofs.MergeWriteLaws.{filled_whole, filled_joined}
+use Rattle.rolls.proofs.MergeLaws.{Each, each_first, each_others, merged_alike, merged_joined}
+use Rattle.rolls.proofs.FilledLaws.{filled_whole, filled_joined, bodies_behind, bodies_bytes}
+use Rattle.rolls.proofs.MergeFileLaws.{BodyRead, each_read}
+use Rattle.rolls.proofs.MergeCallLaws.{pair_view}
 use Rattle.rolls.proofs.KeyOrder.{FirstColumn, first_column, keys_compare}
 
 -- The contents of two files, as the code finds it.
@@ -79,142 +69,6 @@ module _ (first second : List ℕ) where
           let w = mapped_back whole_of (read_whole first) h in
           rw (w.1, (mapped_back whole_of (read_whole second) g).1, same_check ∙ sym p) (ap (λ (v : Whole). done v.table) w.2)
 
--- A file read whole.
-
--- what is known of it
-pub record WholeTold (file : List ℕ) (w : WholeFile) : Type 0 where
-  pub reads : read_file file ≡ done w.table
-  pub keys : List Number
-  pub read : keys_in w.table file ≡ done keys
-  pub falls : w.falls ≡ fall keys
-
-pub whole_view : (file : List ℕ) {w : WholeFile} → read_whole file ≡ done w → WholeTold file w
-unfolding read_whole
-whole_view file {w} h =
-    let a = then_done (read_file file) (λ (t : Table). (keys_in t file then λ (keys : List Number). done (record { table = t; falls = fall keys }))) h in
-    let b = then_done (keys_in a.value file) (λ (keys : List Number). done (record { table = a.value; falls = fall keys })) a.second in
-    let same : ◌≡◌ {A = WholeFile} (record { table = a.value; falls = fall b.value }) w = done_same b.second in
-    record {
-      reads = a.first ∙ ap (λ (v : WholeFile). done v.table) same;
-      keys = b.value;
-      read = ap (λ (v : WholeFile). keys_in v.table file) (sym same) ∙ b.first;
-      falls = sym (ap (λ (v : WholeFile). v.falls) same);
-    }
-
--- the code's is inside the file
-pub whole_within : (file : List ℕ) {w : Whole} → done w ≡ mapped whole_of (read_whole file) → w.table.size ≤ length file
-whole_within file h =
-    let m = mapped_back whole_of (read_whole file) h in
-    let t = whole_view file m.1 in
-    omega (arith, ap (λ (v : Whole). v.table.size) m.2, (file_told file t.reads).within)
-
--- and has an image
-pub whole_images : (file : List ℕ) {w : Whole} → done w ≡ mapped whole_of (read_whole file) → 0 < length w.table.images.items
-whole_images file h =
-    let m = mapped_back whole_of (read_whole file) h in
-    let t = whole_view file m.1 in
-    omega (arith, ap (λ (v : Whole). length v.table.images.items) m.2, (contents_sound file (file_told file t.reads).contents).low)
-
--- The bodies of a file.
-
--- a file's bodies are those behind its contents
-pub bodies_behind : (table : Table) (file : List ℕ) → bodies_in table file ≡ all_bodies (body_size table.images) (drop table.size file)
-unfolding bodies_in record_count
-bodies_behind table file =
-    ap (λ (n : ℕ). bodies (n / body_size table.images) (body_size table.images) (drop table.size file)) (sym (length-drop table.size file))
-
--- each of them has bytes
-each_bytes : (n size : ℕ) (bytes : List ℕ) → Bytes bytes → Each Bytes (bodies n size bytes)
-unfolding bodies
-each_bytes zero size bytes h = Each.none
-each_bytes (suc n) size bytes h = Each.more (bytes_take size h) (each_bytes n size (drop size bytes) (bytes_drop size h))
-
-bodies_bytes : (table : Table) (file : List ℕ) → Bytes file → Each Bytes (bodies_in table file)
-unfolding bodies_in
-bodies_bytes table file h = each_bytes (record_count table file) (body_size table.images) (drop table.size file) (bytes_drop table.size h)
-
--- and where their keys are read, each is read
-pub record BodyRead (ims : List Image) (body : List ℕ) : Type 0 where
-  pub numbers : List Number
-  pub reads : unpack_body ims body ≡ done numbers
-
-pub each_read : (ims : List Image) (bs : List (List ℕ)) {keys : List Number} → keys_of ims bs ≡ done keys → Each (BodyRead ims) bs
-each_read ims [] h = Each.none
-each_read ims (b ∷ bs) h = let v = keys_view ims b bs h in Each.more (record { numbers = v.numbers; reads = v.reads }) (each_read ims bs v.rest)
-
--- Two files that are taken.
-
--- bytes that the test takes for the same are
-same_bytes : (xs ys : List ℕ) → not (bytes_eq xs ys) ≡ false → xs ≡ ys
-same_bytes xs ys h = go (bytes_eq xs ys) refl h
-  where
-    go : (b : Bool) → bytes_eq xs ys ≡ b → not b ≡ false → xs ≡ ys
-    go true e k = (bytes_eq-Decides xs ys).0 e
-    go false e k = not_both refl k
-
--- and the other way
-bytes_same : (xs ys : List ℕ) → xs ≡ ys → bytes_eq xs ys ≡ true
-bytes_same xs ys h = (bytes_eq-Decides xs ys).1 h
-
--- what is not refused
-pub record PairTaken (contents other : List ℕ) (ims : List Image) (falls : Bool) : Type 0 where
-  pub same : contents ≡ other
-  pub kind : check_kind ims ≡ done tt
-  pub stands : falls ≡ false
-
-pub pair_taken : (contents other : List ℕ) (ims : List Image) (falls : Bool) → check_pair contents other ims falls ≡ done tt → PairTaken contents other ims falls
-unfolding check_pair
-pair_taken contents other ims falls h =
-    let one = then_last (refuse_where (not (bytes_eq contents other)) 17) (check_kind ims then λ _. refuse_where falls 15) h in
-    let two = then_last (check_kind ims) (refuse_where falls 15) one.1 in
-    record {
-      same = same_bytes contents other (not_refused (not (bytes_eq contents other)) 17 one.0);
-      kind = two.0;
-      stands = not_refused falls 15 two.1;
-    }
-
--- and the other way
-pub pair_fine : (contents other : List ℕ) (ims : List Image) (falls : Bool) → PairTaken contents other ims falls → check_pair contents other ims falls ≡ done tt
-unfolding check_pair refuse_where ◌then◌
-pair_fine contents other ims falls t = rw (bytes_same contents other t.same, t.kind, t.stands) refl
-
--- neither of two tests holds
-neither : (a b : Bool) → (a || b) ≡ false → (a ≡ false) × (b ≡ false)
-neither false b h = (refl, h)
-neither true b h = not_both refl h
-
--- all that is asked, where two files that were read are taken
-pub pair_view :
-    (first second : List ℕ) {one two : WholeFile}
-    → read_whole first ≡ done one
-    → read_whole second ≡ done two
-    → check_pair (contents_in one.table first) (contents_in two.table second) one.table.images (one.falls || two.falls) ≡ done tt
-    → (m : Mergeable first second) × (m.table ≡ one.table) × (two.table ≡ one.table)
-pair_view first second {one} {two} p q h =
-    let a = whole_view first p in
-    let b = whole_view second q in
-    let t = pair_taken (contents_in one.table first) (contents_in two.table second) one.table.images (one.falls || two.falls) h in
-    let f = neither one.falls two.falls t.stands in
-    let alone : read_alone (contents_in two.table second) ≡ done one.table =
-    ap read_alone (sym t.same) ∙ contents_alone first (file_told first a.reads).contents in
-    let tables : two.table ≡ one.table = one_answer (contents_alone second (file_told second b.reads).contents) alone in (
-      record {
-        table = one.table;
-        first_file = a.reads;
-        second_file = b.reads ∙ ap {B = Answer Table} done tables;
-        contents = t.same ∙ ap (λ (t : Table). contents_in t second) tables;
-        first_keys = a.keys;
-        second_keys = b.keys;
-        first_read = a.read;
-        second_read = ap (λ (t : Table). keys_in t second) (sym tables) ∙ b.read;
-        kind = kind_told one.table.images t.kind;
-        first_order = (fall_exactly a.keys).0 (sym a.falls ∙ f.0);
-        second_order = (fall_exactly b.keys).0 (sym b.falls ∙ f.1);
-      },
-      refl,
-      tables,
-    )
-
 -- Records compared by bytes.
 
 -- bodies that are read have a first column
@@ -241,19 +95,6 @@ merged_by_bytes (im ∷ ims) xs ys (more c cs) low kind p q r s =
     merged_alike (by_key (key_of (im ∷ ims))) (not_behind (column_size im)) (λ x y f g. keys_compare im ims kind c f g) xs ys
     (each_column kind c xs p r)
     (each_column kind c ys q s)
-
--- The lengths of what is merged.
-
--- a list of bodies joined
-joined_more : (b : List ℕ) (bs : List (List ℕ)) → length (concat (b ∷ bs)) ≡ length b + length (concat bs)
-joined_more b bs = length-append b (concat bs)
-
--- merged lists have the bytes of both
-pub merged_joined : (goes : List ℕ → List ℕ → Bool) (xs ys : List (List ℕ)) → length (concat (merged goes xs ys)) ≡ length (concat xs) + length (concat ys)
-merged_joined goes =
-    merged_by goes (λ xs ys zs. length (concat zs) ≡ length (concat xs) + length (concat ys)) (λ ys. omega arith) (λ x xs. omega arith)
-    (λ x xs y ys h r. omega (arith, r, joined_more x (merged goes xs (y ∷ ys)), joined_more x xs))
-    (λ x xs y ys h r. omega (arith, r, joined_more y (merged goes (x ∷ xs) ys), joined_more y ys))
 
 -- The call, as the definition has it.
 
@@ -289,11 +130,6 @@ column_within : (ims : List Image) → 1 ≤ length ims → column_size (get_or 
 unfolding body_size
 column_within [] low = absurd (omega arith)
 column_within (im ∷ ims) low = omega arith
-
--- the lent bytes
-pub bytes_known : (bytes : List ℕ) → ((i : ℕ) → get_or bytes i 0 < 256) → Bytes bytes
-bytes_known [] h = Bytes.none
-bytes_known (b ∷ bs) h = Bytes.more (h 0) (bytes_known bs (λ i. h (suc i)))
 
 module _ (first second : List ℕ) (t : Contents) where
   -- the file that is made

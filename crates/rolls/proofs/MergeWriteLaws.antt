@@ -1,84 +1,16 @@
 -- Laws of the loop that writes merged records: the bodies that are left of each file, and what is written before them. Assumes nothing.
-use Rattle.std.proofs.Common.{◌≡◌, ℕ, zero, suc, ◌+◌, ◌-◌, ◌*◌, ◌/◌, ◌%◌, ◌<◌, ◌≤◌, true, false, List, [], ◌∷◌, ◌++◌, length, length-append, ◌⊎◌, inl, inr, take, drop, refl, ap, ap₂, sym, ◌∙◌, arith, append_assoc, append-nil, zero-mul}
+use Rattle.std.proofs.Common.{◌≡◌, ℕ, ◌+◌, ◌-◌, ◌%◌, ◌<◌, ◌≤◌, true, false, List, [], ◌∷◌, ◌++◌, length, length-append, ◌⊎◌, inl, inr, take, drop, refl, ap, ap₂, sym, ◌∙◌, arith, append_assoc, append-nil}
 use lib.Seq.{take_at, length-take-le}
-use lib.ListN.{length-drop, drop_of_length-le}
+use lib.ListN.{drop_of_length-le}
 use borrow.Rule.Slice.PartMut.{put_mid}
-use Rattle.std.proofs.lemmas.List.{take-append-drop, nil_from_length}
-use native.Mathlib.Nat.{div-add-mod', suc-mul}
-use Rattle.std.proofs.Math.Nat.{mul-div_cancel}
+use Rattle.std.proofs.lemmas.List.{nil_from_length}
 use Rattle.std.specs.List.{concat}
 use Rattle.codec.specs.Answers.{written}
 use Rattle.codec.proofs.BufferLaws.{part_written, written_length, written_next}
-use Rattle.records.specs.Files.{bodies}
-use Rattle.records.proofs.BodiesLaws.{bodies_ahead}
 use Rattle.rolls.specs.Merging.{merged, all_bodies, not_behind}
-use borrow.Author.Tests.{eq-eqb}
 use lib.Dec.{eqb}
-use Rattle.rolls.proofs.FallLaws.{not_both}
+use Rattle.rolls.proofs.FilledLaws.{Filled, filled_whole, filled_none, Next, filled_next, filled_joined}
 use Rattle.rolls.proofs.MergeLaws.{merged_none, none_merged, merged_first, merged_second}
-
--- bytes that are bodies of one size, one behind the other
-pub record Filled (size : ℕ) (bytes : List ℕ) : Type 0 where
-  pub count : ℕ
-  pub fills : length bytes ≡ count * size
-
--- where nothing is left over
-pub filled_whole : (size : ℕ) (bytes : List ℕ) → length bytes % size ≡ 0 → Filled size bytes
-filled_whole size bytes h = record { count = length bytes / size; fills = let split = div-add-mod' (length bytes) size in omega arith }
-
-module _ {size : ℕ} (some : 0 < size) where
-  -- their count
-  pub filled_count : {bytes : List ℕ} (f : Filled size bytes) → length bytes / size ≡ f.count
-  filled_count f = ap (λ (n : ℕ). n / size) f.fills ∙ mul-div_cancel f.count some
-
-  -- one is there where bytes are
-  pub filled_some : {bytes : List ℕ} → Filled size bytes → eqb (length bytes) 0 ≡ false → size ≤ length bytes
-  filled_some {bytes} f n = go f.count f.fills
-    where
-      go : (count : ℕ) → length bytes ≡ count * size → size ≤ length bytes
-      go zero h = not_both (eq-eqb (length bytes) 0 (h ∙ zero-mul size)) n
-      go (suc k) h = omega (arith, h, suc-mul k size)
-
-  -- none are no bodies
-  pub filled_none : (bytes : List ℕ) → length bytes ≡ 0 → all_bodies size bytes ≡ []
-  unfolding bodies
-  filled_none bytes h =
-      ap (λ (n : ℕ). bodies n size bytes) (ap (λ (n : ℕ). n / size) (h ∙ sym (zero-mul size)) ∙ mul-div_cancel 0 some)
-
-  -- the first of them, and the others
-  pub record Next (bytes : List ℕ) : Type 0 where
-    pub sized : length (take size bytes) ≡ size
-    pub others : Filled size (drop size bytes)
-    pub splits : all_bodies size bytes ≡ take size bytes ∷ all_bodies size (drop size bytes)
-    pub less : length (drop size bytes) + size ≡ length bytes
-
-  pub filled_next : {bytes : List ℕ} → Filled size bytes → eqb (length bytes) 0 ≡ false → Next bytes
-  filled_next {bytes} f n =
-      let room = filled_some f n in
-      let sized : length (take size bytes) ≡ size = length-take-le size bytes room in
-      let same = take-append-drop size bytes in
-      let a = bodies_ahead size f.count (take size bytes) (drop size bytes) some (ap length same ∙ f.fills) sized in
-      let rest : Filled size (drop size bytes) = record { count = a.others; fills = a.reaches } in
-      record {
-        sized = sized;
-        others = rest;
-        splits =
-            ap₂ (λ (n : ℕ) (l : List ℕ). bodies n size l) (filled_count f) (sym same)
-            ∙ a.splits
-            ∙ ap (λ (n : ℕ). take size bytes ∷ bodies n size (drop size bytes)) (sym (filled_count rest));
-        less = omega (arith, length-drop size bytes);
-      }
-
-  -- all of them joined are the bytes
-  joined_all : (count : ℕ) (bytes : List ℕ) → length bytes ≡ count * size → concat (bodies count size bytes) ≡ bytes
-  unfolding bodies
-  joined_all zero bytes h = sym (nil_from_length bytes (h ∙ zero-mul size))
-  joined_all (suc n) bytes h =
-      ap (λ (l : List ℕ). take size bytes ++ l) (joined_all n (drop size bytes) (omega (arith, length-drop size bytes, suc-mul n size)))
-      ∙ take-append-drop size bytes
-
-  pub filled_joined : {bytes : List ℕ} → Filled size bytes → concat (all_bodies size bytes) ≡ bytes
-  filled_joined {bytes} f = ap (λ (n : ℕ). concat (bodies n size bytes)) (filled_count f) ∙ joined_all f.count bytes f.fills
 
 -- The loop: what is written, and the bodies that are left of both files merged, are the whole.
 pub record Writing (size column : ℕ) (all first second target : List ℕ) (at : ℕ) : Type 0 where

@@ -1,7 +1,8 @@
 -- Document 02, (vi), for files: two files are merged exactly where all that is asked of them holds; the result is their merged file by the
+
 -- four clauses, and no other file is. It has every record of both, byte for byte, and no more; merging with a file of no records gives the
 -- other. Assumes nothing.
-use Rattle.std.proofs.Common.{◌≡◌, ℕ, ◌+◌, ◌%◌, ◌<◌, ◌≤◌, Bool, true, false, ◌||◌, List, [], ◌++◌, length, length-append, map, get_or, take, drop, refl, ap, ap₂, sym, subst, ◌∙◌, arith}
+use Rattle.std.proofs.Common.{◌≡◌, ℕ, ◌+◌, ◌<◌, ◌≤◌, Bool, true, false, ◌||◌, List, [], ◌++◌, length, length-append, map, get_or, take, drop, refl, ap, ap₂, sym, subst, ◌∙◌, arith}
 use lib.Seq.{length-take-le, take-append_seam}
 use lib.ListN.{take-append-drop, length-drop}
 use borrow.Author.Tests.{le-ltb}
@@ -26,20 +27,12 @@ use Rattle.rolls.specs.Merging.{of_camera, WholeFile, contents_in, common_table,
 use Rattle.rolls.specs.MergedFiles.{Mergeable, MergedFile, HasRecord}
 use Rattle.rolls.proofs.FallTheorem.{fall_exactly}
 use Rattle.rolls.proofs.PageLaws.{kind_fine}
-use Rattle.rolls.proofs.MergeLaws.{Each, merged_each, merged_length, merged_none, none_merged}
+use Rattle.rolls.proofs.MergeLaws.{Each, merged_each, merged_length, merged_joined, merged_none, none_merged}
 use Rattle.rolls.proofs.MergeTheorem.{merge_exactly, entries_count, camera_stands}
-use Rattle.rolls.proofs.MergeCallLaws.{whole_fine}
-use Rattle.rolls.proofs.MergeWriteLaws.{filled_whole, filled_joined}
-use Rattle.rolls.proofs.MergePairLaws.{merged_joined, BodyRead, each_read, bodies_behind, pair_fine, common_view}
-use Rattle.rolls.proofs.MergeFileLaws.{Sized, made_reads, made_contents, made_bodies, read_sized, keys_are}
-
--- a file's bodies joined are what stands behind its contents
-bodies_joined_are : (table : Table) (file : List ℕ) → read_file file ≡ done table → concat (bodies_in table file) ≡ drop table.size file
-bodies_joined_are table file reads =
-    let told = file_told file reads in
-    ap concat (bodies_behind table file)
-    ∙ filled_joined told.some
-    (filled_whole (body_size table.images) (drop table.size file) (ap (λ (n : ℕ). n % body_size table.images) (length-drop table.size file) ∙ told.whole))
+use Rattle.rolls.proofs.MergeCallLaws.{whole_fine, pair_fine}
+use Rattle.rolls.proofs.FilledLaws.{Sized, bodies_joined_are}
+use Rattle.rolls.proofs.MergePairLaws.{common_view}
+use Rattle.rolls.proofs.MergeFileLaws.{BodyRead, each_read, made_reads, made_contents, made_bodies, read_sized, keys_are}
 
 -- What is asked.
 

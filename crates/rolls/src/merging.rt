@@ -48,7 +48,7 @@ fn check_pair(contents: &[u8], other: &[u8], images: &[Image], falls: bool) -> R
 
 // The contents that two files have which can be merged: refused as the first file is and with 7 and the column within its first bad record,
 // then as the second is, then with 17, 16, 15.
-#[tactic(auto, using(crate::proofs::MergePairLaws::whole_within, crate::proofs::MergePairLaws::whole_images, crate::proofs::MergePairLaws::common_one, crate::proofs::MergePairLaws::common_two, crate::proofs::MergePairLaws::common_pair, crate::proofs::MergePairLaws::common_done), unfolding(decimal::specs::Answer::mapped))]
+#[tactic(auto, using(crate::proofs::MergeCallLaws::whole_within, crate::proofs::MergeCallLaws::whole_images, crate::proofs::MergePairLaws::common_one, crate::proofs::MergePairLaws::common_two, crate::proofs::MergePairLaws::common_pair, crate::proofs::MergePairLaws::common_done), unfolding(decimal::specs::Answer::mapped))]
 fn common_contents(first: &[u8], second: &[u8]) -> Result<Contents, Refusal>
     ensures { meaning result ≡ mapped contents_of (common_table first.now second.now) }
 {
@@ -70,7 +70,7 @@ fn goes_first(first: &[u8], second: &[u8], column: usize) -> bool
 
 // Writes the bodies of two files, each with one behind the other, as one such file: of the two that are next, the one whose first column
 // comes first, and of equal ones the first file's. When one file has no more, the rest is the other's.
-#[tactic(auto, using(crate::proofs::MergeWriteLaws::filled_some))]
+#[tactic(auto, using(crate::proofs::FilledLaws::filled_some))]
 fn write_merged(first: &[u8], second: &[u8], column: usize, body: usize, target: &mut [u8])
     requires sizes { (column ≤ body) × (0 < body) }
     requires whole { (length first.now % body ≡ 0) × (length second.now % body ≡ 0) }

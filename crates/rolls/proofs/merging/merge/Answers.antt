@@ -7,7 +7,8 @@ use Rattle.codec.specs.Columns.{column_size}
 use Rattle.codec.specs.Lists.{no_image}
 use Rattle.codec.proofs.BufferLaws.{part_stored}
 use Rattle.rolls.specs.Merging.{merged, file_with, all_bodies, not_behind}
-use Rattle.rolls.proofs.MergePairLaws.{bytes_known, code_made, made_short, made_done}
+use Rattle.rolls.proofs.FilledLaws.{bytes_known}
+use Rattle.rolls.proofs.MergePairLaws.{code_made, made_short, made_done}
 use Rattle.rolls.proofs.merging.merge.Goals as goal
 
 pub returns-then-buffer-size-clause-answer : goal.returns-then-buffer-size-clause-answer
