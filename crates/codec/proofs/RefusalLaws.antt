@@ -1,4 +1,4 @@
--- Which refusals reading a contents and a body can give. Assumes nothing.
+-- Which refusals reading a contents and a body, and packing a list, can give. Assumes nothing.
 use Prim.Native.Nat.{ℕ, zero, suc}
 use mathlib.Core.Bool.{not, ◌&&◌}
 use mathlib.Core.List.{List, [], ◌∷◌}
@@ -9,11 +9,13 @@ use Rattle.decimal.specs.declared.number.Number.{Number}
 use Rattle.decimal.specs.Answer.{Answer, done, refused}
 use Rattle.decimal.specs.Digits.{value_of}
 use Rattle.decimal.specs.Truncation.{number_of}
-use Rattle.decimal.proofs.RefusalLaws.{RefusesOnly, only_done, only_refused, only_choice, only_then, image_refusals}
+use Rattle.decimal.proofs.RefusalLaws.{RefusesOnly, only_done, only_refused, only_choice, only_then, image_refusals, packed_refusals}
 use Rattle.codec.specs.Lists.{any_of, max_columns}
 use Rattle.codec.specs.Columns.{column_size, body_size}
 use Rattle.codec.specs.Contents.{read_column, column_length, read_columns, read_contents}
 use Rattle.codec.specs.Halves.{halves_of}
+use Rattle.codec.specs.Packing.{pack_columns, pack_list}
+use Rattle.decimal.specs.Truncation.{packed_truncation}
 use Rattle.codec.specs.Unpacking.{all_digits, all_zero, sign_part, digit_part, exponent_part, pad_part, said_by, breaks_rules, as_half, parts_number}
 use Rattle.codec.specs.Unpacking.{halves_number, unpack_column, unpack_columns, unpack_body}
 
@@ -79,3 +81,25 @@ module _ {kind : ℕ → ℕ → Type 0} (bad_half : (column : ℕ) → kind 7 c
   unfolding unpack_body
   body_refusals ims body wrong_length =
       only_choice (eqb (length body) (body_size ims)) (numbers_refusals 0 ims body) (only_refused wrong_length)
+
+-- A list.
+
+module _
+    {kind : ℕ → ℕ → Type 0} (no_image_lem : (column : ℕ) → kind 1 column) (many_digits : (column : ℕ) → kind 2 column)
+    (not_normal : (column : ℕ) → kind 3 column) (exceeds : (column : ℕ) → kind 4 column) (exponent_outside : (column : ℕ) → kind 5 column)
+  where
+    -- its columns
+    packing_refusals : (column : ℕ) (ims : List Image) (ns : List Number) → RefusesOnly kind (pack_columns column ims ns)
+    unfolding pack_columns
+    packing_refusals column [] ns = only_done
+    packing_refusals column (im ∷ ims) [] = only_done
+    packing_refusals column (im ∷ ims) (n ∷ ns) =
+        only_then (packed_truncation column im n)
+        (packed_refusals column im n (no_image_lem column) (many_digits column) (not_normal column) (exceeds column) (exponent_outside column))
+        (λ t. only_then (pack_columns (suc column) ims ns) (packing_refusals (suc column) ims ns) (λ rest. only_done))
+
+    -- Published: packing a list gives 10 and 1 to 5 alone.
+    pub list_refusals : (ims : List Image) (ns : List Number) → kind 10 0 → RefusesOnly kind (pack_list ims ns)
+    unfolding pack_list
+    list_refusals ims ns wrong_count =
+        only_choice (eqb (length ns) (length ims)) (packing_refusals 0 ims ns) (only_refused wrong_count)

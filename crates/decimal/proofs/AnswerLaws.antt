@@ -69,6 +69,12 @@ unfolding ◌then◌
 then_same (done x) = refl
 then_same (refused number place) = refl
 
+-- three steps one after the other, however they are put together
+pub then_then : {A B C : Type 0} (a : Answer A) (f : A → Answer B) (g : B → Answer C) → (a then λ (x : A). (f x then g)) ≡ ((a then f) then g)
+unfolding ◌then◌
+then_then (done x) f g = refl
+then_then (refused number place) f g = refl
+
 -- What is refused behind a `?` is refused as the call before it was.
 pub passed_on : {A : Type 0} (r : Result A Refusal) (e : Refusal) → IsErrAnd r (λ (y : Refusal). y ≡ e) → meaning r ≡ refused (reason_number e.reason) e.place
 passed_on (Ok a) e h = absurd h

@@ -1,10 +1,12 @@
 -- Which refusals an answer can be. Assumes nothing.
-use Rattle.std.proofs.Common.{◌≡◌, ℕ, Bool, true, false, eqb, ltb, List, sym, refl, subst}
+use Rattle.std.proofs.Common.{◌≡◌, ℕ, Bool, true, false, not, ◌&&◌, eqb, ltb, List, sym, refl, subst}
 use Rattle.decimal.specs.declared.number.Number.{Number}
 use Rattle.decimal.specs.Answer.{Answer, done, refused, ◌then◌, pick}
 use Rattle.decimal.specs.Digits.{precision}
-use Rattle.decimal.specs.Number.{normal, check_number}
+use Rattle.decimal.specs.declared.image.Image.{Image}
+use Rattle.decimal.specs.Number.{normal, check_number, exponent_limit}
 use Rattle.decimal.specs.Image.{Start, is_image, run_state, hashes, check_image, scanned_image, read_image}
+use Rattle.decimal.specs.Truncation.{is_signed, exceeds, exponent_outside, truncation, limited, packable, packed_truncation}
 use Rattle.decimal.proofs.AnswerLaws.{never_done}
 
 -- an answer that, where it is a refusal, is one of a kind: of these numbers and places
@@ -50,3 +52,27 @@ module _ {kind : ℕ → ℕ → Type 0} where
   pub number_refusals : (place : ℕ) (n : Number) → kind 3 place → RefusesOnly kind (check_number place n)
   unfolding check_number
   number_refusals place n three = only_choice (normal n) only_done (only_refused three)
+
+  -- checking an image 1 and 2.
+  check_refusals : (place : ℕ) (im : Image) → kind 1 place → kind 2 place → RefusesOnly kind (check_image place im)
+  unfolding check_image
+  check_refusals place im one two =
+      only_choice (eqb (hashes im) 0) (only_refused one) (only_choice (ltb precision (hashes im)) (only_refused two) only_done)
+
+  -- Published: truncating a number to pack it gives 1 to 5 alone.
+  pub packed_refusals :
+      (place : ℕ) (im : Image) (n : Number)
+      → kind 1 place
+      → kind 2 place
+      → kind 3 place
+      → kind 4 place
+      → kind 5 place
+      → RefusesOnly kind (packed_truncation place im n)
+  unfolding packed_truncation truncation limited packable
+  packed_refusals place im n one two three four five =
+      only_then (truncation place im n)
+      (only_then (check_image place im) (check_refusals place im one two)
+      (λ _. only_then (check_number place n) (number_refusals place n three)
+      (λ _. only_choice im.exponential (only_choice (exponent_outside im n) (only_refused five) only_done)
+      (only_choice (exceeds im n) (only_refused four) only_done))))
+      (λ t. only_choice (not (is_signed im.sign) && ltb t.x exponent_limit) (only_refused five) only_done)

@@ -53,6 +53,7 @@ reason_number reasons.PositionsFall = 14
 reason_number reasons.RecordsFall = 15
 reason_number reasons.WrongKind = 16
 reason_number reasons.ContentsDiffer = 17
+reason_number reasons.ReservationDiffers = 18
 
 -- each case of what a call returns, in document 01's numbers
 abbrev pub meaning : {A : Type 0} → Result A Refusal → Answer A

@@ -1,4 +1,4 @@
-// Refusals (document 01: When a call says no; document 02 adds 14 to 17): every layer's reasons in one table, which a caller matches on.
+// Refusals (document 01: When a call says no; document 02 adds 14 to 18): every layer's reasons in one table, which a caller matches on.
 ghost use Rattle.std.specs.Prelude.{◌≡◌};
 ghost use Rattle.decimal.specs.Answer.{reason_number};
 
@@ -43,6 +43,8 @@ pub enum Reason {
     WrongKind = 16,
     // The contents of two files differ.
     ContentsDiffer = 17,
+    // A file has another used length, or bodies of another size, than the place that was reserved for a record.
+    ReservationDiffers = 18,
 }
 
 impl Reason {

@@ -363,75 +363,82 @@ unfolding sized new_length
 new_refused used (done body) h = never_done h
 new_refused used (refused x y) h = h
 
--- a call that is refused as the file is gives the refusal, and the buffer stays
-pub adds_refused :
-    (buffer : List ℕ) (used : ℕ) (ns : List Number) {number place : ℕ}
-    → read_used buffer used ≡ refused number place
-    → (refused number place ≡ new_length used (added buffer used ns)) × (buffer ≡ written_behind used (added buffer used ns) buffer)
-unfolding new_length written_behind
-adds_refused buffer used ns h =
-    let r = added_refused buffer used ns h in
-    (sym (ap (new_length used) r), sym (ap (λ (a : Answer (List ℕ)). written_behind used a buffer) r))
+-- what follows a used length is so long
+behind_room : (buffer : List ℕ) (used : ℕ) → length (part_behind buffer used) ≡ length buffer - used
+behind_room buffer used = ap length (behind_all buffer used) ∙ length-drop used buffer
 
-module _
-    (buffer : List ℕ) (used : ℕ) (ns : List Number) {r : Contents} (h : done r ≡ mapped contents_of (read_used buffer used)) {ims : List Image}
-    (lent : ims ≡ r.images.items)
-  where
-    -- the used length is within the buffer
-    pub adds_within : used ≤ length buffer
-    adds_within = (used_told buffer used (told_read (read_used buffer used) h).reads).0
+module _ (ims : List Image) (ns : List Number) (buffer : List ℕ) (used : ℕ) where
+  -- a list, packed under images into what follows a used length
+  abbrev packed_behind : Answer (List ℕ)
+  packed_behind = packing_under ims ns (length buffer - used)
 
-    -- the list, packed under the images that the code has read, into what follows the used length
-    abbrev packed_behind : Answer (List ℕ)
-    packed_behind = packing_under ims ns (length (part_behind buffer used))
+  -- it is within that room
+  packed_room : {body : List ℕ} → packed_behind ≡ done body → length body ≤ length buffer - used
+  unfolding packing_under
+  packed_room h =
+      let b = then_done (pack_under ims ns) (within (length buffer - used)) h in
+      (within_told (length buffer - used) b.value b.second).1
 
-    -- this is what is added
-    adds_under : packed_behind ≡ added buffer used ns
-    unfolding packing_under
-    adds_under =
-        let t = told_read (read_used buffer used) h in
-        let contents = (file_told (take used buffer) (used_told buffer used t.reads).1).contents in
-        let packs : pack_under ims ns ≡ pack_list t.table.images ns =
-        ap (λ (xs : List Image). pack_under xs ns) (lent ∙ t.images)
-        ∙ pack_under_checked t.table.images ns (contents_checks (take used buffer) contents) in
-        let room : length (part_behind buffer used) ≡ length buffer - used = ap length (behind_all buffer used) ∙ length-drop used buffer in
-        (λ i. packs i then within (room i)) ∙ sym (added_packed buffer used ns t.reads)
+  -- the code packs into the part of the buffer that it lends
+  abbrev packed_part : Answer (List ℕ)
+  packed_part = packing_under ims ns (length (part_behind buffer used))
 
-    module _
-        {answer : Answer ℕ} {after : List ℕ}
-        (told : (answer ≡ sized packed_behind) × (after ≡ stored_in packed_behind (part_behind buffer used)))
+  -- this is the same
+  packed_same : packed_part ≡ packed_behind
+  packed_same = ap (packing_under ims ns) (behind_room buffer used)
+
+  -- the buffer with the part that comes back
+  pub packs_bytes :
+      {after : List ℕ} → after ≡ stored_in packed_part (part_behind buffer used) → put_behind buffer used after ≡ written_behind used packed_behind buffer
+  packs_bytes told =
+      ap (put_behind buffer used) (told ∙ ap (λ (a : Answer (List ℕ)). stored_in a (part_behind buffer used)) packed_same)
+      ∙ behind_stored buffer used packed_behind
+
+  module _ {answer : Answer ℕ} (told : answer ≡ sized packed_part) where
+    -- the length of the body, or the refusal
+    packs_sized : answer ≡ sized packed_behind
+    packs_sized = told ∙ ap sized packed_same
+
+    -- the body ends within the buffer
+    pub packs_room : {size : ℕ} → used ≤ length buffer → answer ≡ done size → used + size ≤ length buffer
+    unfolding sized
+    packs_room {size} inside d = go packed_behind refl (sym packs_sized ∙ d)
       where
-        -- the length of what is added, or the refusal
-        adds_sized : answer ≡ sized (added buffer used ns)
-        adds_sized = told.0 ∙ ap sized adds_under
+        go : (a : Answer (List ℕ)) → packed_behind ≡ a → sized a ≡ done size → used + size ≤ length buffer
+        go (done body) q z = let same : length body ≡ size = cc in omega (arith, packed_room q, inside)
+        go (refused x y) q z = never_done z
 
-        -- the buffer with it
-        adds_put : put_behind buffer used after ≡ written_behind used (added buffer used ns) buffer
-        adds_put =
-            ap (put_behind buffer used) (told.1 ∙ ap (λ (a : Answer (List ℕ)). stored_in a (part_behind buffer used)) adds_under)
-            ∙ behind_stored buffer used (added buffer used ns)
+    -- refused by the images, the list or the room
+    pub packs_stopped : {number place : ℕ} → answer ≡ refused number place → refused number place ≡ new_length used packed_behind
+    packs_stopped d = new_refused used packed_behind (sym d ∙ packs_sized)
 
-        -- it is within the buffer
-        pub adds_room : {size : ℕ} → answer ≡ done size → used + size ≤ length buffer
-        unfolding sized
-        adds_room {size} d = go (added buffer used ns) refl (sym adds_sized ∙ d)
-          where
-            go : (a : Answer (List ℕ)) → added buffer used ns ≡ a → sized a ≡ done size → used + size ≤ length buffer
-            go (done body) q z = let same : length body ≡ size = cc in omega (arith, (added_told buffer used ns q).room)
-            go (refused x y) q z = never_done z
+    -- or written
+    pub packs_done : {size : ℕ} → answer ≡ done size → done (used + size) ≡ new_length used packed_behind
+    packs_done d = new_length_lem used packed_behind (sym d ∙ packs_sized)
 
-        -- refused by the list or the room
-        pub adds_stopped :
-            {number place : ℕ}
-            → answer ≡ refused number place
-            → (refused number place ≡ new_length used (added buffer used ns))
-            × (put_behind buffer used after ≡ written_behind used (added buffer used ns) buffer)
-        adds_stopped d = (new_refused used (added buffer used ns) (sym d ∙ adds_sized), adds_put)
+module _ (buffer : List ℕ) (used : ℕ) (ns : List Number) {number place : ℕ} (h : read_used buffer used ≡ refused number place) where
+  -- a call that is refused as the file is gives the refusal
+  pub adds_refused : refused number place ≡ new_length used (added buffer used ns)
+  unfolding new_length
+  adds_refused = sym (ap (new_length used) (added_refused buffer used ns h))
 
-        -- or added
-        pub adds_done :
-            {size : ℕ}
-            → answer ≡ done size
-            → (done (used + size) ≡ new_length used (added buffer used ns))
-            × (put_behind buffer used after ≡ written_behind used (added buffer used ns) buffer)
-        adds_done d = (new_length_lem used (added buffer used ns) (sym d ∙ adds_sized), adds_put)
+  -- and the buffer stays
+  pub adds_nothing : buffer ≡ written_behind used (added buffer used ns) buffer
+  unfolding written_behind
+  adds_nothing = sym (ap (λ (a : Answer (List ℕ)). written_behind used a buffer) (added_refused buffer used ns h))
+
+module _ (buffer : List ℕ) (used : ℕ) {r : Contents} (h : done r ≡ mapped contents_of (read_used buffer used)) where
+  -- the used length is within the buffer
+  pub adds_within : used ≤ length buffer
+  adds_within = (used_told buffer used (told_read (read_used buffer used) h).reads).0
+
+  -- what is packed behind it under the images that the code has read is added
+  pub adds_under : (ns : List Number) {ims : List Image} → ims ≡ r.images.items → packing_under ims ns (length buffer - used) ≡ added buffer used ns
+  unfolding packing_under
+  adds_under ns {ims} lent =
+      let t = told_read (read_used buffer used) h in
+      let contents = (file_told (take used buffer) (used_told buffer used t.reads).1).contents in
+      let packs : pack_under ims ns ≡ pack_list t.table.images ns =
+      ap (λ (xs : List Image). pack_under xs ns) (lent ∙ t.images)
+      ∙ pack_under_checked t.table.images ns (contents_checks (take used buffer) contents) in
+      ap (λ (a : Answer (List ℕ)). a then within (length buffer - used)) packs ∙ sym (added_packed buffer used ns t.reads)

@@ -29,6 +29,9 @@ pub mod BodiesLaws
 pub mod RefusalLaws
 pub mod FileTheorem
 pub mod ReplaceTheorem
+pub mod ReserveLaws
+pub mod ReserveTheorem
+pub mod ReserveRefusals
 pub mod ReportLaws
 pub mod RecordLaws
 pub mod LinesLaws

@@ -11,6 +11,9 @@ pub mod Finding
 pub mod Spilling
 pub mod Files
 pub mod Adding
+pub mod Reserving
+pub mod TwoCalls
+pub mod KnownReservations
 pub mod Listing
 pub mod Known
 pub mod Demand

@@ -7,6 +7,7 @@ mod finding;
 mod listing;
 mod marks;
 mod printing;
+mod reserving;
 mod scanning;
 mod writing;
 
@@ -14,4 +15,5 @@ pub use fields::{Element, read_field};
 pub use files::{add, read_file, show, shown_body, write_contents};
 pub use listing::{FILE_LENGTH, REPORT_LENGTH, list, report, report_length};
 pub use printing::{ELEMENTS, LINE_LENGTH, Printed, forecast, print};
+pub use reserving::{Reservation, reserve, write_reserved};
 pub use scanning::scan;
