@@ -1,4 +1,8 @@
 // The calls, a function for each: its arguments are a line's words as bytes, and it writes the answer and every byte of a lent buffer.
+ghost use Rattle.std.specs.Prelude.{◌≡◌};
+ghost use Rattle.decimal.specs.Answer.{meaning};
+ghost use Rattle.records.specs.Files.{added, new_length, written_behind};
+
 use crate::items::{elements_in, number_in, numbers_in};
 use crate::shown::{
     print_answer, print_buffer, print_bytes, print_count, print_number, print_numbers, print_parts,
@@ -6,7 +10,8 @@ use crate::shown::{
 };
 use crate::words::whole;
 use codec::Stop;
-use decimal::{Image, Number, Sign, Truncation};
+use decimal::{Image, Number, Refusal, Sign, Truncation};
+use records::Reservation;
 use rolls::POSITIONS;
 use std::cmp::Ordering;
 use std::io;
@@ -153,6 +158,67 @@ pub(crate) fn add(
     numbers: &[u8],
 ) -> io::Result<()> {
     let answer = records::add(whole(used), &numbers_in(numbers), &mut *buffer);
+    print_answer(out, answer, print_count)?;
+    print_buffer(out, &*buffer)
+}
+
+// reserve BUFFER USED: the place of the body, and its length.
+pub(crate) fn reserve<W: Write>(out: &mut W, buffer: &[u8], used: &[u8]) -> io::Result<()> {
+    let answer = records::reserve(buffer, whole(used));
+    print_answer(out, answer, |out, place| {
+        print_count(out, place.start)?;
+        print_count(out, place.size)
+    })
+}
+
+// The bytes of a place that is reserved: those of its start, then those of its length, as many as a whole number has.
+const START: usize = 8;
+
+// The place that bytes are.
+fn reservation_in(bytes: &[u8]) -> Reservation {
+    let (start, size) = bytes.split_at(bytes.len().min(START));
+    Reservation {
+        start: whole(start),
+        size: whole(size),
+    }
+}
+
+// write BUFFER USED PLACE NUMBERS: as add, at a place that is reserved.
+pub(crate) fn write(
+    out: &mut impl Write,
+    buffer: &mut [u8],
+    used: &[u8],
+    place: &[u8],
+    numbers: &[u8],
+) -> io::Result<()> {
+    let answer = records::write_reserved(
+        whole(used),
+        reservation_in(place),
+        &numbers_in(numbers),
+        &mut *buffer,
+    );
+    print_answer(out, answer, print_count)?;
+    print_buffer(out, &*buffer)
+}
+
+// Adds a record by the two calls with nothing between them: it promises what add promises, word for word.
+#[tactic(auto, using(records::proofs::ReserveTheorem::first_refused, records::proofs::ReserveTheorem::first_nothing, records::proofs::ReserveTheorem::filled_next))]
+fn add_in_two(used: usize, numbers: &[Number], buffer: &mut [u8]) -> Result<usize, Refusal>
+    ensures answer { meaning result ≡ new_length used (added buffer.old used numbers.now) }
+    ensures bytes { buffer.new ≡ written_behind used (added buffer.old used numbers.now) buffer.old }
+{
+    let place = records::reserve(&*buffer, used)?;
+    records::write_reserved(used, place, numbers, buffer)
+}
+
+// both BUFFER USED NUMBERS: as add, by the two calls.
+pub(crate) fn both(
+    out: &mut impl Write,
+    buffer: &mut [u8],
+    used: &[u8],
+    numbers: &[u8],
+) -> io::Result<()> {
+    let answer = add_in_two(whole(used), &numbers_in(numbers), &mut *buffer);
     print_answer(out, answer, print_count)?;
     print_buffer(out, &*buffer)
 }

@@ -9,6 +9,7 @@ mod columns;
 mod lines;
 mod merges;
 mod pages;
+mod reserves;
 mod scaled;
 mod shown;
 mod texts;
@@ -17,6 +18,7 @@ use crate::columns::{body_row, cut_row, image_row, size_row};
 use crate::lines::{fields_row, line_row};
 use crate::merges::merge_row;
 use crate::pages::page_row;
+use crate::reserves::{NOT_NORMAL, list_row, place, reserve_row, write_row};
 use crate::scaled::{minus, plus};
 use crate::texts::{long_row, read_row, text_row};
 use std::io;
@@ -310,6 +312,68 @@ fn not_merged(out: &mut impl Write) -> io::Result<()> {
     merge_row(out, b"\x01\x02##\x05\x12", b"\x00")
 }
 
+// Document 02, (vii): places reserved behind a file in a buffer.
+fn reserved(out: &mut impl Write) -> io::Result<()> {
+    // A record in the file, or none, with room behind; no room; two columns.
+    reserve_row(out, b"\x01\x02##\x05\x00\x00", 5)?;
+    reserve_row(out, b"\x01\x02##\x05\x00\x00", 4)?;
+    reserve_row(out, b"\x01\x02##", 4)?;
+    reserve_row(out, b"\x02\x02##\x01#\x05\x10\x00\x00", 8)?;
+    // Refused: a part of a body, a used length past the buffer, no contents, no columns, a byte that no image has, 14 digits.
+    reserve_row(out, b"\x02\x02##\x01#\x05\x10\x00\x00", 7)?;
+    reserve_row(out, b"\x01\x02##", 5)?;
+    reserve_row(out, b"\x01\x02##", 0)?;
+    reserve_row(out, b"\x00", 1)?;
+    reserve_row(out, b"\x01\x01X", 3)?;
+    reserve_row(out, b"\x01\x0e##############", 16)
+}
+
+// Document 02, (vii): records written where a place was reserved, or refused as the place, the file or its contents is.
+fn written_reserved(out: &mut impl Write) -> io::Result<()> {
+    // Written; another place and another size.
+    write_row(out, b"\x01\x02##\x05\x00\x00", 5, place(5, 1), b"12")?;
+    write_row(out, b"\x01\x02##\x05\x00\x00", 5, place(4, 1), b"12")?;
+    write_row(out, b"\x01\x02##\x05\x00\x00", 5, place(5, 2), b"12")?;
+    // Two columns: written; a part of a body, and another size, which comes before it.
+    write_row(
+        out,
+        b"\x02\x02##\x01#\x05\x10\x00\x00",
+        8,
+        place(8, 2),
+        b"5 2",
+    )?;
+    write_row(
+        out,
+        b"\x02\x02##\x01#\x05\x10\x00\x00",
+        7,
+        place(7, 2),
+        b"5 2",
+    )?;
+    write_row(
+        out,
+        b"\x02\x02##\x01#\x05\x10\x00\x00",
+        7,
+        place(7, 1),
+        b"5 2",
+    )?;
+    // A used length past the buffer and a byte that no image has come before another place.
+    write_row(out, b"\x01\x02##", 5, place(4, 1), b"12")?;
+    write_row(out, b"\x01\x01X", 3, place(4, 1), b"12")
+}
+
+// Document 02, (vii): lists that are refused at a reserved place, and records that find no room there.
+fn not_written(out: &mut impl Write) -> io::Result<()> {
+    // An empty list; another place comes before it.
+    write_row(out, b"\x01\x02##\x05\x00", 5, place(5, 1), b"")?;
+    write_row(out, b"\x01\x02##\x05\x00", 5, place(4, 1), b"")?;
+    // A number that exceeds, and one that is not in normal form.
+    write_row(out, b"\x01\x02##\x05\x00", 5, place(5, 1), b"100")?;
+    list_row(out, b"\x01\x02##\x05\x00", 5, place(5, 1), &[NOT_NORMAL])?;
+    // No room; a number that exceeds comes before it.
+    write_row(out, b"\x01\x02##\x05", 5, place(5, 1), b"12")?;
+    write_row(out, b"\x01\x02##\x05", 5, place(5, 1), b"100")
+}
+
 // Known values printed, both marked *.
 fn known_lines(out: &mut impl Write) -> io::Result<()> {
     line_row(out, b"#,###.#", b"34")?;
@@ -441,6 +505,9 @@ fn print_rows(out: &mut impl Write) -> io::Result<()> {
     spaced(out)?;
     merged(out)?;
     not_merged(out)?;
+    reserved(out)?;
+    written_reserved(out)?;
+    not_written(out)?;
     known_lines(out)?;
     printed_lines(out)?;
     earlier_lines(out)?;
