@@ -114,11 +114,26 @@ fn print(buffer: &[u8], line: &[u8], items: &[u8], texts: &[u8]) -> String {
     format!("{words} buffer {}", hexadecimal(&after))
 }
 
-/// Answers the call that adds a record.
-fn add(buffer: &[u8], used: &[u8], items: &[u8]) -> String {
-    let result = model::add(buffer, whole(used) as usize, &numbers(items));
+/// Writes the answer of a call that puts a record behind the used length, and the whole buffer afterwards.
+fn added(result: Result<(usize, Vec<u8>), Refusal>, buffer: &[u8]) -> String {
     let after = result.clone().map_or(buffer.to_vec(), |(_, after)| after);
     format!("{} buffer {}", answer(result, |(used, _)| used.to_string()), hexadecimal(&after))
+}
+
+/// Answers the call that adds a record.
+fn add(buffer: &[u8], used: &[u8], items: &[u8]) -> String {
+    added(model::add(buffer, whole(used) as usize, &numbers(items)), buffer)
+}
+
+/// Answers the call that reserves.
+fn reserve(buffer: &[u8], used: &[u8]) -> String {
+    answer(model::reserve(buffer, whole(used) as usize), |(place, size)| format!("{place} {size}"))
+}
+
+/// Answers the call that writes what was reserved: a word's first eight bytes are the place, the bytes behind them the size.
+fn write(buffer: &[u8], used: &[u8], reserved: &[u8], items: &[u8]) -> String {
+    let (place, size) = reserved.split_at(reserved.len().min(8));
+    added(model::write(buffer, whole(used) as usize, whole(place) as usize, whole(size) as usize, &numbers(items)), buffer)
 }
 
 /// Answers the call that shows a record: where its body stands, and the body.
@@ -243,6 +258,9 @@ fn call(line: &str) -> Option<String> {
         "field" => answer(model::read_field(&a), |found| number_words(&found)),
         "contents" => written(model::write_contents(&b, a.len()), &a),
         "add" => add(&a, &b, &c),
+        "both" => add(&a, &b, &c),
+        "reserve" => reserve(&a, &b),
+        "write" => write(&a, &b, &c, &d),
         "show" => show(&a, &b),
         "list" => list(&a, &b),
         "report" => report(&a, &b),

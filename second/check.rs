@@ -91,10 +91,26 @@ fn remainders_answer(contents: &str, numbers: &str, room: &str) -> Option<String
     }))
 }
 
+/// Writes the answer of a call that puts a record behind the used length.
+fn added_answer(result: Result<(usize, Vec<u8>), Refusal>) -> String {
+    answer(result, |(used, buffer)| format!("{used} {}", hexadecimal(&buffer)))
+}
+
 /// Makes a call that adds a record.
 fn add_answer(buffer: &str, used: &str, numbers: &str) -> Option<String> {
-    let result = model::add(&bytes(buffer)?, size(used)?, &list(numbers, number)?);
-    Some(answer(result, |(used, buffer)| format!("{used} {}", hexadecimal(&buffer))))
+    Some(added_answer(model::add(&bytes(buffer)?, size(used)?, &list(numbers, number)?)))
+}
+
+/// Makes a call that reserves.
+fn reserve_answer(buffer: &str, used: &str) -> Option<String> {
+    let result = model::reserve(&bytes(buffer)?, size(used)?);
+    Some(answer(result, |(place, length)| format!("{place} {length}")))
+}
+
+/// Makes a call that writes what was reserved.
+fn write_answer(buffer: &str, used: &str, place: &str, length: &str, numbers: &str) -> Option<String> {
+    let (place, length) = (size(place)?, size(length)?);
+    Some(added_answer(model::write(&bytes(buffer)?, size(used)?, place, length, &list(numbers, number)?)))
 }
 
 /// Makes a call that shows a record.
@@ -131,6 +147,8 @@ fn make_call(words: &[&str]) -> Option<String> {
         ["field", field] => number_answer(model::read_field(&bytes(field)?)),
         ["print", line, elements, texts, room] => print_answer(line, elements, texts, room)?,
         ["add", buffer, used, numbers] => add_answer(buffer, used, numbers)?,
+        ["reserve", buffer, used] => reserve_answer(buffer, used)?,
+        ["write", buffer, used, place, length, numbers] => write_answer(buffer, used, place, length, numbers)?,
         ["show", file, r] => show_answer(file, r)?,
         ["find", file, positions] => find_answer(file, positions)?,
         ["merge", first, second, room] => bytes_answer(model::merge(&bytes(first)?, &bytes(second)?, size(room)?)),

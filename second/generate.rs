@@ -94,6 +94,11 @@ fn size(value: usize) -> Vec<u8> {
     if value < 65_536 { (value as u16).to_be_bytes().to_vec() } else { (value as u64).to_be_bytes().to_vec() }
 }
 
+/// Gives so many bytes of any value.
+fn any_bytes(random: &mut Random, count: usize) -> Vec<u8> {
+    (0..count).map(|_| random.below(256) as u8).collect()
+}
+
 /// Gives a buffer for an answer of some length: too short, just long enough, or longer, with any bytes in it.
 fn buffer_for(random: &mut Random, length: usize) -> Vec<u8> {
     let room = match random.below(8) {
@@ -102,7 +107,7 @@ fn buffer_for(random: &mut Random, length: usize) -> Vec<u8> {
         2..=4 => length,
         _ => length + random.below(6),
     };
-    (0..room.min(3_000)).map(|_| random.below(256) as u8).collect()
+    any_bytes(random, room.min(3_000))
 }
 
 /// Gives a text: mostly one that begins as a text number, at times with blanks behind the sign or in another place.
@@ -202,12 +207,15 @@ fn file(random: &mut Random) -> Vec<u8> {
     bytes
 }
 
-/// Gives the words of a call that adds a record.
-fn add(random: &mut Random) -> Vec<Vec<u8>> {
-    let file = file(random);
-    let numbers = list_for(random, &file);
-    let body = model::read_file(&file).map_or(3, |(images, _)| model::body_length(&images));
-    let behind = buffer_for(random, body);
+/// Gives the length of a body under the contents in front of a file; 3 if there is none.
+fn body_size(file: &[u8]) -> usize {
+    model::read_contents(file).map_or(3, |(images, _)| model::body_length(&images))
+}
+
+/// Gives a buffer with a file in front and any bytes behind it, and a used length: mostly the file's, at times one above the buffer's
+/// length, or another.
+fn buffer_and_used(random: &mut Random, file: Vec<u8>) -> (Vec<u8>, usize) {
+    let behind = buffer_for(random, body_size(&file));
     let used = match random.below(16) {
         0 => file.len() + random.below(behind.len() + 2),
         1 => file.len() + behind.len() + 1,
@@ -215,7 +223,126 @@ fn add(random: &mut Random) -> Vec<Vec<u8>> {
         3 => usize::MAX,
         _ => file.len(),
     };
-    vec![[file, behind].concat(), size(used), items(&numbers)]
+    ([file, behind].concat(), used)
+}
+
+/// Gives the words of a call that adds a record.
+fn add(random: &mut Random) -> Vec<Vec<u8>> {
+    let file = file(random);
+    let numbers = list_for(random, &file);
+    let (buffer, used) = buffer_and_used(random, file);
+    vec![buffer, size(used), items(&numbers)]
+}
+
+/// Gives some images, mostly few, at times 16.
+fn few_images(random: &mut Random) -> Vec<Vec<u8>> {
+    let count = if random.below(16) == 0 { 16 } else { 1 + random.below(3) };
+    (0..count).map(|_| files::image(random)).collect()
+}
+
+/// Gives a short file: mostly a whole one; at times a damaged contents, bytes of no whole body at the end, or a changed half.
+fn short_file(random: &mut Random) -> Vec<u8> {
+    let mut images = few_images(random);
+    let damage = random.below(20);
+    if damage == 0 {
+        let place = random.below(images.len());
+        images[place] = files::bad_image(random);
+    }
+    let records = random.below(4);
+    let mut bytes = files::file(random, &images, records);
+    let front = files::contents_of(&images).len();
+    match damage {
+        1 => bytes[0] = one_of(random, &[0, 17, 255, images.len() as u8 + 1]),
+        2 => bytes.truncate(random.below(front + 1)),
+        3..=6 => {
+            let torn = 1 + random.below(5);
+            bytes.extend(any_bytes(random, torn));
+        }
+        7 => files::change(random, &mut bytes, front),
+        _ => {}
+    }
+    bytes
+}
+
+/// Gives a list for a record: mostly one that packs, at times of another count, with any number in it, or with very large and small ones.
+fn list_for_record(random: &mut Random, file: &[u8]) -> Vec<Number> {
+    let mut numbers = list_for(random, file);
+    match random.below(12) {
+        0 | 1 if !numbers.is_empty() => {
+            let column = random.below(numbers.len());
+            numbers[column] = any_number(random);
+        }
+        2 => numbers.iter_mut().filter(|number| number.m > 0).for_each(|number| number.e = one_of(random, &[-99, -99, -98, -97, 98, 99])),
+        _ => {}
+    }
+    numbers
+}
+
+/// Gives the place and the size that reserving answers where the contents can be read, bodies that are not whole set aside.
+fn place_and_size(buffer: &[u8], used: usize) -> (usize, usize) {
+    (used, body_size(&buffer[..used.min(buffer.len())]))
+}
+
+/// Gives a place and a size that mostly are not this answer: those before the last record was added, those under another contents, a place
+/// or a size that is greater or less by one or differs in one bit of 64, the two exchanged, or very large ones.
+fn other_answer(random: &mut Random, (place, size): (usize, usize)) -> (usize, usize) {
+    let bit = 1 << random.below(64);
+    let huge = one_of(random, &[usize::MAX, usize::MAX - 1, usize::MAX - place.wrapping_add(size), 1 << 63, (1 << 63) - 1]);
+    match random.below(11) {
+        0 | 1 => (place.saturating_sub(size), size),
+        2 | 3 => (place, body_size(&files::contents_of(&few_images(random)))),
+        4 => (place.wrapping_add(1), size),
+        5 => (place, one_of(random, &[size - 1, size + 1])),
+        6 => (place ^ bit, size),
+        7 => (place, size ^ bit),
+        8 => (size, place),
+        9 => (place, huge),
+        _ => (huge, one_of(random, &[size, huge])),
+    }
+}
+
+/// Writes a place and a size as bytes: at times with fewer or more than eight bytes of the size, or cut off anywhere.
+fn reserved(random: &mut Random, (place, length): (usize, usize)) -> Vec<u8> {
+    let (place, whole) = ((place as u64).to_be_bytes(), (length as u64).to_be_bytes());
+    let more = random.below(4);
+    match random.below(12) {
+        0 => [&place[..], &size(length)].concat(),
+        1 => [&place[..], &any_bytes(random, more), &whole].concat(),
+        2 => [place, whole].concat()[..random.below(16)].to_vec(),
+        _ => [place, whole].concat(),
+    }
+}
+
+/// Gives the words of a call that reserves.
+fn reserve(random: &mut Random) -> Vec<Vec<u8>> {
+    let file = short_file(random);
+    let (buffer, used) = buffer_and_used(random, file);
+    vec![buffer, size(used)]
+}
+
+/// Gives the words of a call that writes: as often with a place and a size that are right as with others, whatever else is wrong.
+fn write(random: &mut Random) -> Vec<Vec<u8>> {
+    let file = short_file(random);
+    let numbers = list_for_record(random, &file);
+    let (buffer, used) = buffer_and_used(random, file);
+    let right = place_and_size(&buffer, used);
+    let answer = if random.below(2) == 0 { right } else { other_answer(random, right) };
+    vec![buffer, size(used), reserved(random, answer), items(&numbers)]
+}
+
+/// Gives the lines of a call that reserves and of one that writes with what it answers: mostly on the same buffer, at times after a record
+/// was added to it.
+fn reserve_then_write(random: &mut Random) -> Vec<String> {
+    let file = short_file(random);
+    let numbers = list_for_record(random, &file);
+    let (buffer, used) = buffer_and_used(random, file);
+    let answer = model::reserve(&buffer, used).unwrap_or(place_and_size(&buffer, used));
+    let first = call_line("reserve", &[buffer.clone(), size(used)]);
+    let (used, buffer) = match model::add(&buffer, used, &numbers) {
+        Ok(added) if random.below(6) == 0 => added,
+        _ => (used, buffer),
+    };
+    vec![first, call_line("write", &[buffer, size(used), reserved(random, answer), items(&numbers)])]
 }
 
 /// Gives the words of a print call.
@@ -364,7 +491,7 @@ fn buffer_for_merged(random: &mut Random, length: usize) -> Vec<u8> {
         3..=6 => length,
         _ => length + random.below(6),
     };
-    (0..room).map(|_| random.below(256) as u8).collect()
+    any_bytes(random, room)
 }
 
 /// Gives the words of a call that merges two files.
@@ -405,7 +532,9 @@ fn words(random: &mut Random, name: &str) -> Vec<Vec<u8>> {
             let contents = contents(random);
             vec![buffer_for(random, contents.len()), contents]
         }
-        "add" => add(random),
+        "add" | "both" => add(random),
+        "reserve" => reserve(random),
+        "write" => write(random),
         "find" => find(random),
         "merge" => merge(random),
         "show" => vec![file(random), size(one_of(random, &[0, 0, 1, 1, 2, 3, 4, 5, 6, usize::MAX]))],
@@ -413,12 +542,28 @@ fn words(random: &mut Random, name: &str) -> Vec<Vec<u8>> {
     }
 }
 
+/// Gives the line of a call.
+fn call_line(name: &str, words: &[Vec<u8>]) -> String {
+    words.iter().fold(name.to_string(), |line, word| line + " " + &hexadecimal(word))
+}
+
+/// The name of two calls, one behind the other.
+const TWO: &str = "reserve, then write";
+
 /// The names of the calls; those that have most to get wrong stand there more than once.
-const NAMES: [&str; 34] = [
+const NAMES: [&str; 41] = [
     "compare", "image", "truncate", "pack", "pack", "cutoff", "cutoff", "unpack", "unpack", "alpha", "legal", "read", "convert", "place",
     "numbers", "scan", "print", "print", "print", "forecast", "field", "contents", "add", "add", "show", "list", "report", "find", "find",
-    "find", "merge", "merge", "merge", "merge",
+    "find", "merge", "merge", "merge", "merge", "both", "reserve", "write", "write", "write", TWO, TWO,
 ];
+
+/// Gives the lines of the next call, or of two.
+fn next_lines(random: &mut Random) -> Vec<String> {
+    match one_of(random, &NAMES) {
+        TWO => reserve_then_write(random),
+        name => vec![call_line(name, &words(random, name))],
+    }
+}
 
 /// Damages a line so that it is no call, for most lines.
 fn damage(random: &mut Random, line: &str) -> String {
@@ -436,10 +581,11 @@ fn main() -> std::io::Result<()> {
     let [seed, count] = arguments[..] else { panic!("usage: generate SEED COUNT") };
     let mut random = Random::new(seed);
     let mut output = std::io::BufWriter::new(std::io::stdout().lock());
-    for _ in 0..count {
-        let name = one_of(&mut random, &NAMES);
-        let words = words(&mut random, name);
-        let line = words.iter().fold(name.to_string(), |line, word| line + " " + &hexadecimal(word));
+    let mut lines = Vec::new();
+    while lines.len() < count as usize {
+        lines.extend(next_lines(&mut random));
+    }
+    for line in lines.into_iter().take(count as usize) {
         let line = if random.below(40) == 0 { damage(&mut random, &line) } else { line };
         writeln!(output, "{line}")?;
     }

@@ -746,15 +746,22 @@ pub fn write_contents(contents: &[u8], room: usize) -> Result<Vec<u8>, Refusal> 
     fit(contents.to_vec(), room)
 }
 
-/// The call that adds a record behind the used length: the new used length, and the buffer as it is afterwards.
-pub fn add(buffer: &[u8], used: usize, numbers: &[Number]) -> Result<(usize, Vec<u8>), Refusal> {
-    if used > buffer.len() {
-        return refuse(11, 0);
-    }
-    let (images, _) = read_file(&buffer[..used])?;
-    let body = fit(pack_list(&images, numbers)?, buffer.len() - used)?;
+/// Gives the file in a buffer, the bytes before the used length, or refuses a used length above the buffer's.
+fn used_part(buffer: &[u8], used: usize) -> Result<&[u8], Refusal> {
+    buffer.get(..used).map_or(refuse(11, 0), Ok)
+}
+
+/// Puts the body of a list behind the used length: the new used length, and the buffer as it is afterwards.
+fn put_body(buffer: &[u8], used: usize, images: &[Image], numbers: &[Number]) -> Result<(usize, Vec<u8>), Refusal> {
+    let body = fit(pack_list(images, numbers)?, buffer.len() - used)?;
     let end = used + body.len();
     Ok((end, [&buffer[..used], &body, &buffer[end..]].concat()))
+}
+
+/// The call that adds a record behind the used length: the new used length, and the buffer as it is afterwards.
+pub fn add(buffer: &[u8], used: usize, numbers: &[Number]) -> Result<(usize, Vec<u8>), Refusal> {
+    let (images, _) = read_file(used_part(buffer, used)?)?;
+    put_body(buffer, used, &images, numbers)
 }
 
 /// The call that shows record r: where its body starts in the file, and its length.
@@ -928,4 +935,25 @@ pub fn merge(first: &[u8], second: &[u8], room: usize) -> Result<Vec<u8>, Refusa
     records.sort_by(|(one, _), (other, _)| order_by_value(one, other));
     let bodies: Vec<&[u8]> = records.iter().map(|(_, body)| *body).collect();
     fit([first.contents, &bodies.concat()].concat(), room)
+}
+
+// ---- Document 02, (vii) ----
+
+/// The call that reserves: where the next body would go, which is the used length, and how many bytes it fills. It asks for no room behind
+/// the used length, so that it never refuses with 6.
+pub fn reserve(buffer: &[u8], used: usize) -> Result<(usize, usize), Refusal> {
+    let (images, _) = read_file(used_part(buffer, used)?)?;
+    Ok((used, body_length(&images)))
+}
+
+/// The call that writes a record, given the place and the size that reserving answers: the new used length, and the buffer as it is
+/// afterwards. Any other place or size is refused with 18, right after the checks of the contents.
+pub fn write(buffer: &[u8], used: usize, place: usize, size: usize, numbers: &[Number]) -> Result<(usize, Vec<u8>), Refusal> {
+    let file = used_part(buffer, used)?;
+    let (images, _) = read_contents(file)?;
+    if (place, size) != (used, body_length(&images)) {
+        return refuse(18, 0);
+    }
+    read_file(file)?;
+    put_body(buffer, used, &images, numbers)
 }

@@ -362,6 +362,57 @@ fn merge_rows() -> String {
     rows.iter().map(|&(first, second)| merge_row(first, second)).collect()
 }
 
+/// Gives the row of a call that reserves: the place and the size, or the refusal.
+fn reserve_row(buffer: &[u8], used: usize) -> String {
+    let answer = match model::reserve(buffer, used) {
+        Ok((place, size)) => format!("{place} {size}"),
+        Err(refusal) => refusal_words(refusal),
+    };
+    format!("reserve {} at {used}: {answer}\n", hexadecimal_words(buffer))
+}
+
+/// Gives the row of a call that writes for a place and a size: the new used length and the buffer, or the refusal.
+fn write_row(buffer: &[u8], used: usize, (place, size): (usize, usize), numbers: &[Number]) -> String {
+    let answer = match model::write(buffer, used, place, size, numbers) {
+        Ok((used, after)) => format!("{used} {}", hexadecimal_words(&after)),
+        Err(refusal) => refusal_words(refusal),
+    };
+    let list: String = numbers.iter().map(|number| format!(" {}", number_words(number))).collect();
+    format!("write {} at {used} for {place} {size} of{list}: {answer}\n", hexadecimal_words(buffer))
+}
+
+/// Gives the rows of records that are reserved and then written: document 02, (vii).
+fn reserved_rows() -> String {
+    let one = [1, 2, b'#', b'#', 0x05, 0, 0];
+    let two = [2, 2, b'#', b'#', 1, b'#', 0x05, 0x10, 0, 0];
+    let none = [1, 2, b'#', b'#'];
+    let bad = [1, 1, b'X'];
+    let long = [&[1, 14][..], &[b'#'; 14]].concat();
+    let reserves: [(&[u8], usize); 10] =
+        [(&one, 5), (&one, 4), (&none, 4), (&two, 8), (&two, 7), (&none, 5), (&none, 0), (&[0], 1), (&bad, 3), (&long, 16)];
+    let [twelve, five, hundred] = [12, 5, 100].map(|whole| number_of(whole, 0));
+    let odd = Number { negative: false, m: 12, e: 0 };
+    let pair = [five, number_of(2, 0)];
+    let writes: [(&[u8], usize, (usize, usize), &[Number]); 14] = [
+        (&one, 5, (5, 1), &[twelve]),
+        (&one, 5, (4, 1), &[twelve]),
+        (&one, 5, (5, 2), &[twelve]),
+        (&two, 8, (8, 2), &pair),
+        (&two, 7, (7, 2), &pair),
+        (&two, 7, (7, 1), &pair),
+        (&none, 5, (4, 1), &[twelve]),
+        (&bad, 3, (4, 1), &[twelve]),
+        (&one[..6], 5, (5, 1), &[]),
+        (&one[..6], 5, (4, 1), &[]),
+        (&one[..6], 5, (5, 1), &[hundred]),
+        (&one[..6], 5, (5, 1), &[odd]),
+        (&one[..5], 5, (5, 1), &[twelve]),
+        (&one[..5], 5, (5, 1), &[hundred]),
+    ];
+    let reserves: String = reserves.iter().map(|&(buffer, used)| reserve_row(buffer, used)).collect();
+    reserves + &writes.iter().map(|&(buffer, used, reserved, numbers)| write_row(buffer, used, reserved, numbers)).collect::<String>()
+}
+
 /// Gives the rows of printed lines: known values, then sources 000, 001 and 004.
 fn line_rows() -> String {
     let rows = [
@@ -415,8 +466,8 @@ fn fields_rows() -> String {
 /// Prints all rows.
 fn main() -> std::io::Result<()> {
     let rows = [
-        image_rows(), size_rows(), body_rows(), text_rows(), read_rows(), cut_rows(), page_rows(), digit_rows(), spaced_rows(), merge_rows(),
-        line_rows(), fields_rows(),
+        image_rows(), size_rows(), body_rows(), text_rows(), read_rows(), cut_rows(), page_rows(), digit_rows(), spaced_rows(),
+        merge_rows(), reserved_rows(), line_rows(), fields_rows(),
     ];
     std::io::stdout().write_all(rows.concat().as_bytes())
 }
