@@ -1,9 +1,9 @@
-// Numbers and elements out of bytes. Each has ITEM bytes: a kind, 0 for a number, 1 for a negative one, 2 for a text; then two whole
-// numbers of eight bytes, the mantissa and the exponent plus EXPONENT_LIMIT, or a text's start and length.
+// Numbers, elements and reserved places out of bytes. A number or an element has ITEM bytes: a kind, 0 for a number, 1 for a negative one,
+// 2 for a text; then two whole numbers of eight bytes, the mantissa and the exponent plus EXPONENT_LIMIT, or a text's start and length.
 use crate::words::whole;
 use arrayvec::ArrayVec;
 use decimal::Number;
-use records::{ELEMENTS, Element};
+use records::{ELEMENTS, Element, Reservation};
 
 // The bytes of an item.
 const ITEM: usize = 1 + 2 * WHOLE;
@@ -67,4 +67,13 @@ pub(crate) fn elements_in(bytes: &[u8]) -> ArrayVec<Element, LISTED> {
 // The numbers of a list, up to LISTED.
 pub(crate) fn numbers_in(bytes: &[u8]) -> ArrayVec<Number, LISTED> {
     made_of(bytes, number_of)
+}
+
+// The place that is reserved: its start in the first WHOLE bytes, its length in those behind them.
+pub(crate) fn reservation_in(bytes: &[u8]) -> Reservation {
+    let (start, size) = bytes.split_at(bytes.len().min(WHOLE));
+    Reservation {
+        start: whole(start),
+        size: whole(size),
+    }
 }

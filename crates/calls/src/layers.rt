@@ -3,15 +3,14 @@ ghost use Rattle.std.specs.Prelude.{◌≡◌};
 ghost use Rattle.decimal.specs.Answer.{meaning};
 ghost use Rattle.records.specs.Files.{added, new_length, written_behind};
 
-use crate::items::{elements_in, number_in, numbers_in};
+use crate::items::{elements_in, number_in, numbers_in, reservation_in};
 use crate::shown::{
-    print_answer, print_buffer, print_bytes, print_count, print_number, print_numbers, print_parts,
-    print_places, print_remainder, print_remainders, print_written,
+    print_added, print_answer, print_buffer, print_bytes, print_count, print_number, print_numbers,
+    print_parts, print_places, print_remainder, print_remainders, print_written,
 };
 use crate::words::whole;
 use codec::Stop;
 use decimal::{Image, Number, Refusal, Sign, Truncation};
-use records::Reservation;
 use rolls::POSITIONS;
 use std::cmp::Ordering;
 use std::io;
@@ -158,8 +157,7 @@ pub(crate) fn add(
     numbers: &[u8],
 ) -> io::Result<()> {
     let answer = records::add(whole(used), &numbers_in(numbers), &mut *buffer);
-    print_answer(out, answer, print_count)?;
-    print_buffer(out, &*buffer)
+    print_added(out, answer, &*buffer)
 }
 
 // reserve BUFFER USED: the place of the body, and its length.
@@ -169,18 +167,6 @@ pub(crate) fn reserve<W: Write>(out: &mut W, buffer: &[u8], used: &[u8]) -> io::
         print_count(out, place.start)?;
         print_count(out, place.size)
     })
-}
-
-// The bytes of a place that is reserved: those of its start, then those of its length, as many as a whole number has.
-const START: usize = 8;
-
-// The place that bytes are.
-fn reservation_in(bytes: &[u8]) -> Reservation {
-    let (start, size) = bytes.split_at(bytes.len().min(START));
-    Reservation {
-        start: whole(start),
-        size: whole(size),
-    }
 }
 
 // write BUFFER USED PLACE NUMBERS: as add, at a place that is reserved.
@@ -197,8 +183,7 @@ pub(crate) fn write(
         &numbers_in(numbers),
         &mut *buffer,
     );
-    print_answer(out, answer, print_count)?;
-    print_buffer(out, &*buffer)
+    print_added(out, answer, &*buffer)
 }
 
 // Adds a record by the two calls with nothing between them: it promises what add promises, word for word.
@@ -219,8 +204,7 @@ pub(crate) fn both(
     numbers: &[u8],
 ) -> io::Result<()> {
     let answer = add_in_two(whole(used), &numbers_in(numbers), &mut *buffer);
-    print_answer(out, answer, print_count)?;
-    print_buffer(out, &*buffer)
+    print_added(out, answer, &*buffer)
 }
 
 // show FILE R: the place of the body, and the body.

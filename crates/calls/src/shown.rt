@@ -107,6 +107,16 @@ pub(crate) fn print_written<W: Write>(
     print_buffer(out, buffer)
 }
 
+// Writes the answer of a call that adds a record, the used length, and the whole buffer.
+pub(crate) fn print_added(
+    out: &mut impl Write,
+    answer: Result<usize, Refusal>,
+    buffer: &[u8],
+) -> io::Result<()> {
+    print_answer(out, answer, print_count)?;
+    print_buffer(out, buffer)
+}
+
 // Writes a buffer as a call left it.
 pub(crate) fn print_buffer(out: &mut impl Write, buffer: &[u8]) -> io::Result<()> {
     out.write_all(b" buffer")?;

@@ -39,25 +39,22 @@ module _ {kind : ℕ → ℕ → Type 0} where
   only_then (done v) p q = q v
   only_then (refused number place) p q = only_refused (p.each refl)
 
-  -- Published: reading an image gives 1 and 2 alone;
+  -- checking an image gives 1 and 2 alone,
+  check_refusals : (place : ℕ) (im : Image) → kind 1 place → kind 2 place → RefusesOnly kind (check_image place im)
+  unfolding check_image
+  check_refusals place im one two =
+      only_choice (eqb (hashes im) 0) (only_refused one) (only_choice (ltb precision (hashes im)) (only_refused two) only_done)
+
+  -- Published: and so does reading one;
   pub image_refusals : (place : ℕ) (bytes : List ℕ) → kind 1 place → kind 2 place → RefusesOnly kind (read_image place bytes)
-  unfolding read_image check_image
+  unfolding read_image
   image_refusals place bytes one two =
-      only_choice (is_image (run_state Start bytes))
-      (only_choice (eqb (hashes (scanned_image bytes)) 0) (only_refused one)
-      (only_choice (ltb precision (hashes (scanned_image bytes))) (only_refused two) only_done))
-      (only_refused one)
+      only_choice (is_image (run_state Start bytes)) (check_refusals place (scanned_image bytes) one two) (only_refused one)
 
   -- checking a number 3.
   pub number_refusals : (place : ℕ) (n : Number) → kind 3 place → RefusesOnly kind (check_number place n)
   unfolding check_number
   number_refusals place n three = only_choice (normal n) only_done (only_refused three)
-
-  -- checking an image 1 and 2.
-  check_refusals : (place : ℕ) (im : Image) → kind 1 place → kind 2 place → RefusesOnly kind (check_image place im)
-  unfolding check_image
-  check_refusals place im one two =
-      only_choice (eqb (hashes im) 0) (only_refused one) (only_choice (ltb precision (hashes im)) (only_refused two) only_done)
 
   -- Published: truncating a number to pack it gives 1 to 5 alone.
   pub packed_refusals :

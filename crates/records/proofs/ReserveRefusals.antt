@@ -6,13 +6,12 @@ use mathlib.Core.Bool.{Bool}
 use mathlib.Core.List.{List}
 use mathlib.Core.Logic.{⊎_elim}
 use native.Mathlib.Omega.{arith}
-use lib.ListN.{length, take}
-use lib.Dec.{ltb}
+use lib.ListN.{length}
 use borrow.Author.Tests.{le-ltb}
 use Rattle.decimal.specs.declared.number.Number.{Number}
 use Rattle.decimal.specs.Answer.{Answer, done, refused, ◌then◌, pick}
 use Rattle.decimal.proofs.AnswerLaws.{never_done}
-use Rattle.decimal.proofs.RefusalLaws.{RefusesOnly, only_done, only_refused, only_choice, only_then}
+use Rattle.decimal.proofs.RefusalLaws.{RefusesOnly, only_done, only_refused, only_then}
 use Rattle.codec.specs.Answers.{within}
 use Rattle.codec.specs.Packing.{pack_list}
 use Rattle.codec.proofs.BodyLaws.{packed_length}
@@ -20,54 +19,20 @@ use Rattle.codec.proofs.RefusalLaws.{list_refusals}
 use Rattle.records.specs.declared.reserving.Reservation.{Reservation}
 use Rattle.records.specs.Files.{read_used, added}
 use Rattle.records.specs.Reserving.{reserved, filled}
-use Rattle.records.specs.TwoCalls.{Differs, ReserveRefusable, AddRefusable, WriteRefusable}
-use Rattle.records.proofs.RefusalLaws.{file_refusals}
+use Rattle.records.specs.TwoCalls.{Differs, WriteRefusable}
+use Rattle.records.specs.Adding.{FileRefusable}
+use Rattle.records.proofs.RefusalLaws.{used_refused, added_refusals, add_refusals}
 use Rattle.records.proofs.FileLaws.{added_packed}
 use Rattle.records.proofs.ReserveLaws.{same_or_differs, filled_same}
 use Rattle.records.proofs.ReserveTheorem.{Reserves, reserves_told, filled_next, write_exactly}
 
-module _
-    {kind : ℕ → ℕ → Type 0} (no_image_lem : (column : ℕ) → kind 1 column) (many_digits : (column : ℕ) → kind 2 column) (wrong_count : kind 10 0)
-    (wrong_length : kind 11 0)
-  where
-    -- reading the file in the first bytes of a buffer
-    used_refusals : (buffer : List ℕ) (used : ℕ) → RefusesOnly kind (read_used buffer used)
-    unfolding read_used
-    used_refusals buffer used =
-        only_choice (ltb (length buffer) used) (only_refused wrong_length)
-        (file_refusals no_image_lem many_digits wrong_length (take used buffer) wrong_count)
-
-    module _
-        (not_normal : (column : ℕ) → kind 3 column) (exceeds : (column : ℕ) → kind 4 column) (exponent_outside : (column : ℕ) → kind 5 column)
-        (no_room : kind 6 0)
-      where
-        -- the old call
-        added_refusals : (buffer : List ℕ) (used : ℕ) (ns : List Number) → RefusesOnly kind (added buffer used ns)
-        unfolding added within
-        added_refusals buffer used ns =
-            only_then (read_used buffer used) (used_refusals buffer used)
-            (λ table. only_then (pack_list table.images ns)
-            (list_refusals no_image_lem many_digits not_normal exceeds exponent_outside table.images ns wrong_count)
-            (λ body. only_choice (ltb (length buffer - used) (length body)) (only_refused no_room) only_done))
-
 -- Published: the first call gives 1, 2, 10 and 11 alone, "and never 6";
-pub reserve_refusals : (buffer : List ℕ) (used : ℕ) {number place : ℕ} → reserved buffer used ≡ refused number place → ReserveRefusable number place
+pub reserve_refusals : (buffer : List ℕ) (used : ℕ) {number place : ℕ} → reserved buffer used ≡ refused number place → FileRefusable number place
 unfolding reserved
 reserve_refusals buffer used h =
-    (only_then {kind = ReserveRefusable} (read_used buffer used)
-    (used_refusals {kind = ReserveRefusable} (λ column. ReserveRefusable.no_image_lem) (λ column. ReserveRefusable.many_digits) ReserveRefusable.wrong_count
-    ReserveRefusable.wrong_length buffer used) (λ table. only_done)).each h
+    (only_then {kind = FileRefusable} (read_used buffer used) (used_refused buffer used) (λ table. only_done)).each h
 
--- Published: the old call these, 3, 4, 5 and 6;
-pub add_refusals :
-    (buffer : List ℕ) (used : ℕ) (ns : List Number) {number place : ℕ} → added buffer used ns ≡ refused number place → AddRefusable number place
-add_refusals buffer used ns h =
-    (added_refusals {kind = AddRefusable} (λ column. AddRefusable.file ReserveRefusable.no_image_lem)
-    (λ column. AddRefusable.file ReserveRefusable.many_digits) (AddRefusable.file ReserveRefusable.wrong_count)
-    (AddRefusable.file ReserveRefusable.wrong_length) (λ column. AddRefusable.not_normal) (λ column. AddRefusable.exceeds)
-    (λ column. AddRefusable.exponent_outside) AddRefusable.no_room buffer used ns).each h
-
--- Published: the second call these, and 18.
+-- Published: the second what the old call gives, and 18.
 pub write_refusals :
     (buffer : List ℕ) (used : ℕ) (r : Reservation) (ns : List Number) {number place : ℕ}
     → filled buffer used r ns ≡ refused number place
@@ -85,8 +50,8 @@ not_number k number place = number ≡ k → ⊥
 added_never : (buffer : List ℕ) (used : ℕ) (ns : List Number) → RefusesOnly (not_number 18) (added buffer used ns)
 added_never buffer used ns =
     added_refusals {kind = not_number 18} (λ column. λ z. absurd (omega arith)) (λ column. λ z. absurd (omega arith)) (λ z. absurd (omega arith))
-    (λ z. absurd (omega arith)) (λ column. λ z. absurd (omega arith)) (λ column. λ z. absurd (omega arith)) (λ column. λ z. absurd (omega arith))
-    (λ z. absurd (omega arith)) buffer used ns
+    (λ column. λ z. absurd (omega arith)) (λ column. λ z. absurd (omega arith)) (λ column. λ z. absurd (omega arith)) buffer used ns
+    (λ z. absurd (omega arith)) (λ z. absurd (omega arith))
 
 -- Published: so 18 is said exactly where the file's used length, or the body's size under its contents, is not the one in the answer.
 pub differs_exactly :

@@ -147,7 +147,6 @@ behind_no_part used one other r ns s =
     let short_other = le-ltb (length other) used s.inside_other in
     record {
       first = rw (short, short_other, s.bytes);
-      body = body_for (take used one) r ns;
       written = room_alone one used r ns s.inside;
       written_other =
           room_alone other used r ns s.inside_other

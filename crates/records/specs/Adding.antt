@@ -58,3 +58,21 @@ pub record Starts (bytes : List ℕ) : Type 0 where
   pub reads : read_file bytes ≡ done table
   pub counted : record_count table bytes ≡ 0
   pub in_order : bodies_in table bytes ≡ []
+
+-- The refusals that adding can give.
+
+-- those of the file in the first bytes of a buffer: no image and an image of too many digits, with the column; the count of columns; a length,
+-- the used length among them
+pub data FileRefusable : ℕ → ℕ → Type 0 where
+  no_image_lem : {column : ℕ} → FileRefusable 1 column
+  many_digits : {column : ℕ} → FileRefusable 2 column
+  wrong_count : FileRefusable 10 0
+  wrong_length : FileRefusable 11 0
+
+-- with those of the numbers, with their columns, and of the room; a list of another count is refused as a count of columns is
+pub data AddRefusable : ℕ → ℕ → Type 0 where
+  file : {number place : ℕ} → FileRefusable number place → AddRefusable number place
+  not_normal : {column : ℕ} → AddRefusable 3 column
+  exceeds : {column : ℕ} → AddRefusable 4 column
+  exponent_outside : {column : ℕ} → AddRefusable 5 column
+  no_room : AddRefusable 6 0

@@ -15,16 +15,16 @@ use Rattle.records.specs.declared.reserving.Reservation.{Reservation}
 use Rattle.records.specs.Files.{read_file, read_used}
 use Rattle.records.specs.Reserving.{reserved, check_place, read_for, read_reserved, filled}
 
--- a file of one column, ##, and one of two, ## and #; bytes behind them
-pub one_column : List ℕ → List ℕ
-one_column bs = 1 ∷ (2 ∷ (hash_byte ∷ (hash_byte ∷ bs)))
+-- a file whose bodies have one byte, under the column ##, and one whose bodies have two, under ## and #
+pub bodies_of_one : List ℕ → List ℕ
+bodies_of_one bs = 1 ∷ (2 ∷ (hash_byte ∷ (hash_byte ∷ bs)))
 
-pub two_columns : List ℕ → List ℕ
-two_columns bs = 2 ∷ (2 ∷ (hash_byte ∷ (hash_byte ∷ (1 ∷ (hash_byte ∷ bs)))))
+pub bodies_of_two : List ℕ → List ℕ
+bodies_of_two bs = 2 ∷ (2 ∷ (hash_byte ∷ (hash_byte ∷ (1 ∷ (hash_byte ∷ bs)))))
 
--- a place
-pub place : ℕ → ℕ → Reservation
-place start size = record { start = start; size = size }
+-- a place that was reserved
+pub reservation : ℕ → ℕ → Reservation
+reservation start size = record { start = start; size = size }
 
 -- the numbers 12, 100, and 12 out of normal form
 pub twelve : Number
@@ -39,37 +39,37 @@ not_normal = record { negative = false; mantissa = 12; exponent = 99 }
 -- the rows
 pub record KnownReservations : Type 0 where
   -- the first call: behind a record, behind a file without one, and where no byte is left
-  pub behind : reserved (one_column (0x05 ∷ (0 ∷ (0 ∷ [])))) 5 ≡ done (place 5 1)
-  pub first : reserved (one_column (0x05 ∷ (0 ∷ (0 ∷ [])))) 4 ≡ done (place 4 1)
-  pub no_room : reserved (one_column []) 4 ≡ done (place 4 1)
+  pub behind : reserved (bodies_of_one (0x05 ∷ (0 ∷ (0 ∷ [])))) 5 ≡ done (reservation 5 1)
+  pub first : reserved (bodies_of_one (0x05 ∷ (0 ∷ (0 ∷ [])))) 4 ≡ done (reservation 4 1)
+  pub no_room : reserved (bodies_of_one []) 4 ≡ done (reservation 4 1)
   -- a body of two columns, and a used length that cuts one
-  pub wide : reserved (two_columns (0x05 ∷ (0x10 ∷ []))) 8 ≡ done (place 8 2)
-  pub torn : reserved (two_columns (0x05 ∷ (0x10 ∷ []))) 7 ≡ refused 11 0
+  pub wide : reserved (bodies_of_two (0x05 ∷ (0x10 ∷ []))) 8 ≡ done (reservation 8 2)
+  pub torn : reserved (bodies_of_two (0x05 ∷ (0x10 ∷ []))) 7 ≡ refused 11 0
   -- a used length past the buffer; no contents
-  pub past : reserved (one_column []) 5 ≡ refused 11 0
-  pub none : reserved (one_column []) 0 ≡ refused 11 0
+  pub past : reserved (bodies_of_one []) 5 ≡ refused 11 0
+  pub none : reserved (bodies_of_one []) 0 ≡ refused 11 0
   pub no_column : reserved (0 ∷ []) 1 ≡ refused 10 0
   pub no_image_lem : reserved (1 ∷ (1 ∷ (0x58 ∷ []))) 3 ≡ refused 1 0
   -- the second call
-  pub written : filled (one_column (0x05 ∷ (0 ∷ []))) 5 (place 5 1) (twelve ∷ []) ≡ done (0x12 ∷ [])
+  pub written : filled (bodies_of_one (0x05 ∷ (0 ∷ []))) 5 (reservation 5 1) (twelve ∷ []) ≡ done (0x12 ∷ [])
   -- another record was added, the contents has bodies of another size
-  pub added_meanwhile : filled (one_column (0x05 ∷ (0 ∷ []))) 5 (place 4 1) (twelve ∷ []) ≡ refused 18 0
-  pub other_contents : filled (one_column (0x05 ∷ (0 ∷ []))) 5 (place 5 2) (twelve ∷ []) ≡ refused 18 0
+  pub added_meanwhile : filled (bodies_of_one (0x05 ∷ (0 ∷ []))) 5 (reservation 4 1) (twelve ∷ []) ≡ refused 18 0
+  pub other_contents : filled (bodies_of_one (0x05 ∷ (0 ∷ []))) 5 (reservation 5 2) (twelve ∷ []) ≡ refused 18 0
   -- which refusal comes first: 11 for the used length, the contents, 18, 11 for bodies, 10, the numbers, 6
-  pub past_first : filled (one_column []) 5 (place 4 1) [] ≡ refused 11 0
-  pub image_first : filled (1 ∷ (1 ∷ (0x58 ∷ []))) 3 (place 4 1) [] ≡ refused 1 0
-  pub place_first : filled (two_columns (0x05 ∷ [])) 7 (place 7 1) [] ≡ refused 18 0
-  pub bodies_first : filled (two_columns (0x05 ∷ [])) 7 (place 7 2) [] ≡ refused 11 0
-  pub count_first : filled (one_column []) 4 (place 4 1) (hundred ∷ (hundred ∷ [])) ≡ refused 10 0
-  pub number_first : filled (one_column []) 4 (place 4 1) (not_normal ∷ []) ≡ refused 3 0
-  pub size_first : filled (one_column []) 4 (place 4 1) (hundred ∷ []) ≡ refused 4 0
-  pub room_last : filled (one_column []) 4 (place 4 1) (twelve ∷ []) ≡ refused 6 0
+  pub past_first : filled (bodies_of_one []) 5 (reservation 4 1) [] ≡ refused 11 0
+  pub image_first : filled (1 ∷ (1 ∷ (0x58 ∷ []))) 3 (reservation 4 1) [] ≡ refused 1 0
+  pub place_first : filled (bodies_of_two (0x05 ∷ [])) 7 (reservation 7 1) [] ≡ refused 18 0
+  pub bodies_first : filled (bodies_of_two (0x05 ∷ [])) 7 (reservation 7 2) [] ≡ refused 11 0
+  pub count_first : filled (bodies_of_one []) 4 (reservation 4 1) (hundred ∷ (hundred ∷ [])) ≡ refused 10 0
+  pub number_first : filled (bodies_of_one []) 4 (reservation 4 1) (not_normal ∷ []) ≡ refused 3 0
+  pub size_first : filled (bodies_of_one []) 4 (reservation 4 1) (hundred ∷ []) ≡ refused 4 0
+  pub room_last : filled (bodies_of_one []) 4 (reservation 4 1) (twelve ∷ []) ≡ refused 6 0
 
 pub known_reservations : KnownReservations
 unfolding reserved filled read_reserved read_for check_place read_used read_file within read_contents read_columns read_column column_length columns_length
     read_image check_image scanned_image run_state next_state integers_from fractions_from leading_sign column_size body_size pack_list pack_columns
     packed_truncation truncation packable limited exceeds truncated_to whole_of stored_exponent check_number normal magnitude column_bytes column_halves
-    sign_halves exponent_halves pack_halves digits_of zeros ◌then◌ one_column two_columns place twelve hundred not_normal
+    sign_halves exponent_halves pack_halves digits_of zeros ◌then◌ bodies_of_one bodies_of_two reservation twelve hundred not_normal
 known_reservations =
     record {
       behind = refl;

@@ -8,7 +8,7 @@ use Rattle.codec.specs.Answers.{within}
 use Rattle.codec.specs.Packing.{pack_list}
 use Rattle.records.specs.declared.reserving.Reservation.{Reservation}
 use Rattle.records.specs.Files.{added, new_length, written_behind, shown}
-use Rattle.records.specs.Adding.{file_after}
+use Rattle.records.specs.Adding.{file_after, AddRefusable}
 use Rattle.records.specs.Reserving.{reserved, read_for, filled}
 
 -- The two calls with nothing between them.
@@ -46,12 +46,11 @@ pub record SameFile (used : ℕ) (one other : List ℕ) : Type 0 where
   pub inside : used ≤ length one
   pub inside_other : used ≤ length other
 
--- both are answered the same, but for room
+-- both are answered the same, but for room: the same place, and the same body or refusal of the file that they have
 pub record SameButRoom (used : ℕ) (one other : List ℕ) (r : Reservation) (ns : List Number) : Type 0 where
   pub first : reserved one used ≡ reserved other used
-  pub body : Answer (List ℕ)
-  pub written : filled one used r ns ≡ (body then within (length one - used))
-  pub written_other : filled other used r ns ≡ (body then within (length other - used))
+  pub written : filled one used r ns ≡ (body_for (take used one) r ns then within (length one - used))
+  pub written_other : filled other used r ns ≡ (body_for (take used one) r ns then within (length other - used))
 
 -- "the file's used length, or the body's size under its contents, is not the one in the answer"
 pub record Differs (buffer : List ℕ) (used : ℕ) (r : Reservation) : Type 0 where
@@ -60,24 +59,7 @@ pub record Differs (buffer : List ℕ) (used : ℕ) (r : Reservation) : Type 0 w
   pub reads : read_contents (take used buffer) ≡ done table
   pub differs : (used ≡ r.start) × (body_size table.images ≡ r.size) → ⊥
 
--- The refusals that each call can give; "these and all later numbers carry place 0".
-
--- the first: no image and an image of too many digits, with the column; the count of columns; a length; so never 6
-pub data ReserveRefusable : ℕ → ℕ → Type 0 where
-  no_image_lem : {column : ℕ} → ReserveRefusable 1 column
-  many_digits : {column : ℕ} → ReserveRefusable 2 column
-  wrong_count : ReserveRefusable 10 0
-  wrong_length : ReserveRefusable 11 0
-
--- the old call: those of the first, the numbers with their columns, the room
-pub data AddRefusable : ℕ → ℕ → Type 0 where
-  file : {number place : ℕ} → ReserveRefusable number place → AddRefusable number place
-  not_normal : {column : ℕ} → AddRefusable 3 column
-  exceeds : {column : ℕ} → AddRefusable 4 column
-  exponent_outside : {column : ℕ} → AddRefusable 5 column
-  no_room : AddRefusable 6 0
-
--- the second: those of the old one, and another place
+-- the refusals that the second call can give: those of the old one, and 18 with place 0
 pub data WriteRefusable : ℕ → ℕ → Type 0 where
   old : {number place : ℕ} → AddRefusable number place → WriteRefusable number place
   other_place : WriteRefusable 18 0
