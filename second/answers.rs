@@ -2,7 +2,7 @@
 //! A line is words parted by one blank: a name, then bytes in hexadecimal, a dot for none.
 #![allow(dead_code)]
 use crate::model;
-use model::{Element, Image, Number, Refusal, Remainder, Stop};
+use model::{Element, Entered, Image, Number, Refusal, Remainder, Stop};
 
 /// The most bytes of a line.
 const LONGEST_CALL: usize = 16_384;
@@ -191,6 +191,20 @@ fn list(buffer: &[u8], file: &[u8]) -> String {
     written(model::listing(file).and_then(fit), buffer)
 }
 
+/// Answers the call that enters a text: as a call that writes, but for a line that is refused.
+fn enter(buffer: &[u8], contents: &[u8], text: &[u8]) -> String {
+    match model::enter(contents, text, buffer.len()) {
+        Entered::File(file) => written(Ok(file), buffer),
+        Entered::Refused(refusal) => written(Err(refusal), buffer),
+        Entered::Line(line, refusal) => format!("line {line} {}", written(Err(refusal), buffer)),
+    }
+}
+
+/// Answers the call that gives the whole length of a file: this length, and the count of bytes behind it.
+fn whole_length(file: &[u8]) -> String {
+    answer(model::whole_length(file), |whole| format!("{} {}", whole.length, whole.behind))
+}
+
 /// Answers the call that reads an image.
 fn image(bytes: &[u8], place: &[u8]) -> String {
     answer(model::read_image(bytes, whole(place) as usize), |image| {
@@ -266,6 +280,8 @@ fn call(line: &str) -> Option<String> {
         "report" => report(&a, &b),
         "find" => find(&a, &b),
         "merge" => written(model::merge(&b, &c, a.len()), &a),
+        "enter" => enter(&a, &b, &c),
+        "whole" => whole_length(&a),
         _ => return None,
     })
 }

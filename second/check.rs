@@ -1,8 +1,9 @@
 mod model;
 
-// Reads calls in the format of vectors/base.txt and vectors/changes-i-vii.txt from standard input. Prints each line whose answer differs,
-// followed by the answer found here, and last the counts. A line that cannot be read as a call counts as differing.
-use model::{Element, Number, Refusal};
+// Reads calls in the format of vectors/base.txt and vectors/changes-i-vii.txt from standard input; beside these enter CONTENTS TEXT ROOM,
+// where the refusal of a line is line L refused N P, and whole FILE, which is answered with ok LENGTH BEHIND. Prints each line whose answer
+// differs, followed by the answer found here, and last the counts. A line that cannot be read as a call counts as differing.
+use model::{Element, Entered, Number, Refusal};
 use std::io::{Read, Write};
 
 /// Reads bytes in hexadecimal; a dot is no bytes.
@@ -128,6 +129,20 @@ fn find_answer(file: &str, positions: &str) -> Option<String> {
     }))
 }
 
+/// Makes a call that enters a text.
+fn enter_answer(contents: &str, text: &str, room: &str) -> Option<String> {
+    Some(match model::enter(&bytes(contents)?, &bytes(text)?, size(room)?) {
+        Entered::File(file) => bytes_answer(Ok(file)),
+        Entered::Refused(refusal) => bytes_answer(Err(refusal)),
+        Entered::Line(line, refusal) => format!("line {line} {}", bytes_answer(Err(refusal))),
+    })
+}
+
+/// Makes a call that gives the whole length of a file.
+fn whole_answer(file: &str) -> Option<String> {
+    Some(answer(model::whole_length(&bytes(file)?), |whole| format!("{} {}", whole.length, whole.behind)))
+}
+
 /// Makes the call that the words before the arrow stand for; nothing if they cannot be read.
 fn make_call(words: &[&str]) -> Option<String> {
     Some(match *words {
@@ -152,6 +167,8 @@ fn make_call(words: &[&str]) -> Option<String> {
         ["show", file, r] => show_answer(file, r)?,
         ["find", file, positions] => find_answer(file, positions)?,
         ["merge", first, second, room] => bytes_answer(model::merge(&bytes(first)?, &bytes(second)?, size(room)?)),
+        ["enter", contents, text, room] => enter_answer(contents, text, room)?,
+        ["whole", file] => whole_answer(file)?,
         ["contents", contents, room] => bytes_answer(model::write_contents(&bytes(contents)?, size(room)?)),
         ["listing", file] => format!("ok {}", hexadecimal(&model::listing_output(&bytes(file)?))),
         _ => return None,

@@ -2,6 +2,7 @@ mod answers;
 mod files;
 mod model;
 mod pairs;
+mod texts;
 
 // Writes generated calls for the programs `calls`, one to a line: valid and damaged ones, so that every refusal comes up.
 // Arguments: the seed, the count.
@@ -501,6 +502,36 @@ fn merge(random: &mut Random) -> Vec<Vec<u8>> {
     vec![buffer_for_merged(random, length), first, second]
 }
 
+/// Gives the words of a call that enters a text: mostly under a contents that the text was made for, at times under another or a damaged
+/// one; the buffer mostly with room for the file.
+fn enter(random: &mut Random) -> Vec<Vec<u8>> {
+    let images = few_images(random);
+    let records = random.below(6);
+    let text = texts::next_text(random, &images, records);
+    let contents = match random.below(16) {
+        0 => contents(random),
+        1 => files::contents_of(&few_images(random)),
+        _ => files::contents_of(&images),
+    };
+    let length = match model::enter(&contents, &text, usize::MAX) {
+        model::Entered::File(file) => file.len(),
+        _ => contents.len(),
+    };
+    vec![buffer_for(random, length), contents, text]
+}
+
+/// Gives a short file: mostly cut off in its bodies, at times anywhere.
+fn cut_file(random: &mut Random) -> Vec<u8> {
+    let mut bytes = short_file(random);
+    let front = bytes.len() - model::read_contents(&bytes).map_or(bytes.len(), |(_, bodies)| bodies.len());
+    match random.below(8) {
+        0 => bytes.truncate(random.below(bytes.len() + 1)),
+        1..=4 => bytes.truncate(front + random.below(bytes.len() - front + 1)),
+        _ => {}
+    }
+    bytes
+}
+
 /// Gives the words of a call by its name.
 fn words(random: &mut Random, name: &str) -> Vec<Vec<u8>> {
     match name {
@@ -537,6 +568,8 @@ fn words(random: &mut Random, name: &str) -> Vec<Vec<u8>> {
         "write" => write(random),
         "find" => find(random),
         "merge" => merge(random),
+        "enter" => enter(random),
+        "whole" => vec![cut_file(random)],
         "show" => vec![file(random), size(one_of(random, &[0, 0, 1, 1, 2, 3, 4, 5, 6, usize::MAX]))],
         _ => listing(random, name),
     }
@@ -551,10 +584,11 @@ fn call_line(name: &str, words: &[Vec<u8>]) -> String {
 const TWO: &str = "reserve, then write";
 
 /// The names of the calls; those that have most to get wrong stand there more than once.
-const NAMES: [&str; 41] = [
+const NAMES: [&str; 47] = [
     "compare", "image", "truncate", "pack", "pack", "cutoff", "cutoff", "unpack", "unpack", "alpha", "legal", "read", "convert", "place",
     "numbers", "scan", "print", "print", "print", "forecast", "field", "contents", "add", "add", "show", "list", "report", "find", "find",
     "find", "merge", "merge", "merge", "merge", "both", "reserve", "write", "write", "write", TWO, TWO,
+    "enter", "enter", "enter", "enter", "enter", "whole",
 ];
 
 /// Gives the lines of the next call, or of two.

@@ -1,5 +1,5 @@
 //! Documents 01 and 02 as plain functions on slices: a second implementation, written from the documents alone, but for `compare`,
-//! `next_number_place` and `read_text_numbers`, which they do not have.
+//! `next_number_place` and `read_text_numbers`, which they do not have, and for `enter` and `whole_length`, which have rules of their own.
 //! Each program that includes this file uses only some of the functions.
 #![allow(dead_code)]
 
@@ -956,4 +956,109 @@ pub fn write(buffer: &[u8], used: usize, place: usize, size: usize, numbers: &[N
     }
     read_file(file)?;
     put_body(buffer, used, &images, numbers)
+}
+
+// ---- Records entered as text ----
+
+/// What the call that enters answers: the file; a refusal of the contents or of the room; or the number of a line, the first being 1, and
+/// the refusal of that line.
+#[derive(Clone, Debug, PartialEq, Eq)]
+pub enum Entered {
+    File(Vec<u8>),
+    Refused(Refusal),
+    Line(usize, Refusal),
+}
+
+/// Parts a text into lines: each ends with 0A, and the last one may lack it.
+fn lines_of(text: &[u8]) -> Vec<&[u8]> {
+    let mut lines: Vec<&[u8]> = text.split(|&byte| byte == b'\n').collect();
+    // What stands behind the last 0A is a line only if it has a byte.
+    if lines.last().is_some_and(|last| last.is_empty()) {
+        lines.pop();
+    }
+    lines
+}
+
+/// Gives the length of the longest beginning that is a text number, the blanks in front of it and behind it included; 0 if there is none.
+/// Blanks apart such a beginning has a sign and at most 18 bytes behind it: 13 digits, the point, and E with a sign and two digits.
+fn number_length(text: &[u8]) -> usize {
+    let (sign, mut rest) = split_sign(without_leading_blanks(text));
+    if sign.is_some() {
+        rest = without_leading_blanks(rest);
+    }
+    let word: Vec<u8> = rest.iter().copied().take_while(|&byte| byte != b' ').take(18).collect();
+    // With a sign in front, so that none is read at the word's beginning.
+    let Some(used) = legal_length(&[b"+", &word[..]].concat()).checked_sub(1) else { return 0 };
+    text.len() - without_leading_blanks(&rest[used..]).len()
+}
+
+/// Reads the numbers of a line, each parted from the next by at least one blank, or refuses with 8 and 5 and the number's place, or with 10
+/// where bytes are left behind 16 numbers.
+fn line_numbers(line: &[u8]) -> Result<Vec<Number>, Refusal> {
+    let (mut rest, mut numbers) = (line, Vec::new());
+    while !rest.is_empty() {
+        let place = numbers.len();
+        if place == MOST_COLUMNS {
+            return refuse(10, 0);
+        }
+        // No bytes are no text number, which is refused with 8.
+        let (text, behind) = rest.split_at(number_length(rest));
+        let number = convert(text).map_err(|refusal| Refusal { place, ..refusal })?;
+        if !behind.is_empty() && !text.ends_with(b" ") {
+            return refuse(8, place);
+        }
+        numbers.push(number);
+        rest = behind;
+    }
+    Ok(numbers)
+}
+
+/// Refuses with 10 a line of a listing that does not give this count behind its word.
+fn require_count(line: &[u8], word: &str, count: usize) -> Result<(), Refusal> {
+    if line == format!("{word} {count}").as_bytes() { Ok(()) } else { refuse(10, 0) }
+}
+
+/// Gives the file that a text's lines make: the contents, then a body for each line that is not a listing's first or last one.
+fn enter_lines(contents: &[u8], images: &[Image], lines: &[&[u8]]) -> Result<Vec<u8>, (usize, Refusal)> {
+    let (mut file, mut records) = (contents.to_vec(), 0);
+    for (index, line) in lines.iter().enumerate() {
+        let refused = |refusal| (index + 1, refusal);
+        if index == 0 && line.starts_with(b"columns ") {
+            require_count(line, "columns", images.len()).map_err(refused)?;
+        } else if index + 1 == lines.len() && line.starts_with(b"records ") {
+            require_count(line, "records", records).map_err(refused)?;
+        } else {
+            file.extend(line_numbers(line).and_then(|numbers| pack_list(images, &numbers)).map_err(refused)?);
+            records += 1;
+        }
+    }
+    Ok(file)
+}
+
+/// The call that makes a record file of a text of lines, such as a listing, under a contents lent alone.
+pub fn enter(contents: &[u8], text: &[u8], room: usize) -> Entered {
+    let images = match read_contents_alone(contents) {
+        Ok(images) => images,
+        Err(refusal) => return Entered::Refused(refusal),
+    };
+    match enter_lines(contents, &images, &lines_of(text)) {
+        Ok(file) => fit(file, room).map_or_else(Entered::Refused, Entered::File),
+        Err((line, refusal)) => Entered::Line(line, refusal),
+    }
+}
+
+// ---- A file cut short ----
+
+/// What there is of a file that may have been cut short: the longest length whose bodies are whole, and the count of bytes behind it.
+#[derive(Clone, Copy, Debug, PartialEq, Eq)]
+pub struct Whole {
+    pub length: usize,
+    pub behind: usize,
+}
+
+/// The call that gives the whole length of a file: it is refused as the contents at the file's front is, and never for its bodies.
+pub fn whole_length(file: &[u8]) -> Result<Whole, Refusal> {
+    let (images, rest) = read_contents(file)?;
+    let behind = rest.len() % body_length(&images);
+    Ok(Whole { length: file.len() - behind, behind })
 }

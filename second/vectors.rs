@@ -2,7 +2,7 @@ mod model;
 
 // Prints rows of document 01's known values and of the manuals' worked examples, each computed by the model.
 // Where an example has a misprint or follows another dialect, the rows of the Rattle program `vectors` say so, row by row.
-use model::{Element, Number, Refusal};
+use model::{Element, Entered, Number, Refusal};
 use std::io::Write;
 
 // The room for a text, a body, a print or a merged file: no row needs more.
@@ -413,6 +413,60 @@ fn reserved_rows() -> String {
     reserves + &writes.iter().map(|&(buffer, used, reserved, numbers)| write_row(buffer, used, reserved, numbers)).collect::<String>()
 }
 
+/// Gives the row of a text that is entered under a contents into so many bytes: the file, or the refusal with the line's number.
+fn enter_row(contents: &[u8], text: &str, room: usize) -> String {
+    let answer = match model::enter(contents, text.as_bytes(), room) {
+        Entered::File(file) => hexadecimal_words(&file),
+        Entered::Refused(refusal) => refusal_words(refusal),
+        Entered::Line(line, refusal) => format!("line {line} {}", refusal_words(refusal)),
+    };
+    format!("enter {} under {} into {room}: {answer}\n", quoted(text.as_bytes()), hexadecimal_words(contents))
+}
+
+/// Gives the rows of texts that are entered as records.
+fn enter_rows() -> String {
+    let steps = [1, 2, b'#', b'#'];
+    let two = [2, 2, b'#', b'#', 1, b'#'];
+    let known = [&[2, 3][..], b"###", &[6], b"+##.##"].concat();
+    let letters = [&[2, 11][..], b"########.##", &[5], b"-##.#"].concat();
+    let rows: [(&[u8], &str, usize); 16] = [
+        (&known, "columns 2\n012 +24.39\n999 -99.99\nrecords 2\n", ROOM),
+        (&letters, "16777216 0\n 16777216.5  - 1.5 \n16777217 +.5E1", ROOM),
+        (&steps, "", ROOM),
+        (&steps, "columns 1\nrecords 0\n", ROOM),
+        (&steps, "99.99\n-12\n", ROOM),
+        (&steps, "columns 2\n05\nrecords 1\n", ROOM),
+        (&steps, "columns 1\n05\nrecords 2\n", ROOM),
+        (&steps, "05\ncolumns 1\n", ROOM),
+        (&steps, "05\n\n12\n", ROOM),
+        (&steps, "05\n  \n12\n", ROOM),
+        (&two, "12 1\n1-2\n", ROOM),
+        (&two, "12 1x\n", ROOM),
+        (&two, "12 99E99\n", ROOM),
+        (&two, "12 1\n100 10\n", ROOM),
+        (&steps, "05\n12\n", 5),
+        (&[1, 1, b'X'], "x\n", 0),
+    ];
+    rows.iter().map(|&(contents, text, room)| enter_row(contents, text, room)).collect()
+}
+
+/// Gives the row of a file that may have been cut short: the length of what is whole, and the count of bytes behind it, or the refusal.
+fn whole_row(file: &[u8]) -> String {
+    let answer = match model::whole_length(file) {
+        Ok(whole) => format!("{} and {} behind", whole.length, whole.behind),
+        Err(refusal) => refusal_words(refusal),
+    };
+    format!("whole {}: {answer}\n", hexadecimal_words(file))
+}
+
+/// Gives the rows of files cut short.
+fn whole_rows() -> String {
+    let pairs = [2, 3, b'#', b'#', b'#', 1, b'#', 0x01, 0x20, 0x10, 0x99, 0x90, 0x20];
+    let bad = [1, 3, b'#', b'#', b'#', 0x0a, 0x20, 0x01];
+    let rows: [&[u8]; 4] = [&pairs, &pairs[..12], &pairs[..6], &bad];
+    rows.iter().map(|file| whole_row(file)).collect()
+}
+
 /// Gives the rows of printed lines: known values, then sources 000, 001 and 004.
 fn line_rows() -> String {
     let rows = [
@@ -467,7 +521,7 @@ fn fields_rows() -> String {
 fn main() -> std::io::Result<()> {
     let rows = [
         image_rows(), size_rows(), body_rows(), text_rows(), read_rows(), cut_rows(), page_rows(), digit_rows(), spaced_rows(),
-        merge_rows(), reserved_rows(), line_rows(), fields_rows(),
+        merge_rows(), reserved_rows(), enter_rows(), whole_rows(), line_rows(), fields_rows(),
     ];
     std::io::stdout().write_all(rows.concat().as_bytes())
 }

@@ -1,0 +1,31 @@
+mod model;
+
+// The program for a file cut short: the length of what is whole of the record file on standard input, and the count of bytes behind it, or
+// its refusal, to standard output.
+use std::io::{Read, Write};
+
+const LONGEST_FILE: usize = 65_536;
+
+/// Reads standard input, one byte more than is allowed at most.
+fn read_input() -> std::io::Result<Vec<u8>> {
+    let mut file = Vec::new();
+    std::io::stdin().take(LONGEST_FILE as u64 + 1).read_to_end(&mut file)?;
+    Ok(file)
+}
+
+/// Gives the output, with the program's own limit first.
+fn output_for(file: &[u8]) -> Vec<u8> {
+    if file.len() > LONGEST_FILE {
+        return model::refusal_line(model::Refusal { number: 11, place: 0 });
+    }
+    match model::whole_length(file) {
+        Ok(whole) => format!("whole {}\nbehind {}\n", whole.length, whole.behind).into_bytes(),
+        Err(refusal) => model::refusal_line(refusal),
+    }
+}
+
+/// Reads, and writes what is whole.
+fn main() -> std::io::Result<()> {
+    let file = read_input()?;
+    std::io::stdout().write_all(&output_for(&file))
+}
