@@ -43,7 +43,7 @@ pub record Foreign (x : ℕ) : Type 0 where
 
 module _ {x : ℕ} (f : Foreign x) where
   -- it is no digit
-  none_digits : (ds : List ℕ) → byte_count x (digit_bytes ds) ≡ 0
+  pub none_digits : (ds : List ℕ) → byte_count x (digit_bytes ds) ≡ 0
   unfolding byte_count digit_bytes
   none_digits [] = refl
   none_digits (d ∷ ds) = let low = f.below in rw (ne_eqb (zero_byte + d) x (λ e. omega arith)) (none_digits ds)
@@ -71,7 +71,7 @@ module _ {x : ℕ} (f : Foreign x) where
       rw (ne_eqb exponent_byte x (λ e. omega arith)) sum
 
   -- so that it stands in no numeral
-  none_numeral : (u : NumeralParts) → byte_count x (numeral_bytes u) ≡ 0
+  pub none_numeral : (u : NumeralParts) → byte_count x (numeral_bytes u) ≡ 0
   unfolding numeral_bytes
   none_numeral u = simp (count_append x) (omega (arith, none_digits u.integer, none_point u.fraction, none_power u.power))
 
@@ -91,7 +91,7 @@ module _ {x : ℕ} (f : Foreign x) where
   count_text t = simp (count_append x) (omega (arith, count_sign t.sign, none_numeral t.numeral))
 
 -- a blank is such a byte
-foreign_blank : Foreign blank_byte
+pub foreign_blank : Foreign blank_byte
 foreign_blank = record { below = omega arith; no_plus = λ e. omega arith; no_minus = λ e. omega arith; no_point_lem = λ e. omega arith }
 
 -- Published: a text has no blanks but those before it, right behind its sign and behind it.

@@ -17,13 +17,14 @@ use Rattle.decimal.specs.declared.number.Number.{Number}
 use Rattle.decimal.specs.Answer.{Answer, done, refused, ◌then◌, pick, checked_only}
 use Rattle.decimal.specs.Truncation.{Truncated, truncated_to, packed_truncation, Fit}
 use Rattle.decimal.proofs.KeptLaws.{checked_refused}
-use Rattle.decimal.proofs.AnswerLaws.{one_answer, done_same, then_done}
+use Rattle.decimal.proofs.AnswerLaws.{one_answer, done_same, then_done, then_last}
 use Rattle.codec.specs.Answers.{within, written}
 use Rattle.codec.specs.Columns.{column_size, body_size}
 use Rattle.codec.specs.Contents.{read_alone, check_images}
 use Rattle.codec.specs.Packing.AllPack.{none, one}
 use Rattle.codec.specs.Packing.{column_bytes, pack_columns, pack_list, body_of, packing_under, pack_under, packing, AllPack, PacksUnder}
-use Rattle.codec.proofs.UnderLaws.{pack_under_checked}
+use Rattle.codec.proofs.ContentsLaws.{Sound}
+use Rattle.codec.proofs.UnderLaws.{pack_under_checked, checks_checked}
 use borrow.Rule.Slice.PartMut.{put_mid}
 use Rattle.codec.proofs.BufferLaws.{part_written, written_length}
 use Rattle.codec.proofs.HalfLaws.{column_length_lem}
@@ -263,44 +264,24 @@ pub packing_contents :
 unfolding packing body_of ◌then◌
 packing_contents contents ns room h = rw h
 
-module _ (ims : List Image) (ns : List Number) (room : ℕ) where
-  -- refused as the images are
-  pub under_images : {x y : ℕ} → check_images ims ≡ refused x y → packing_under ims ns room ≡ refused x y
-  unfolding packing_under pack_under ◌then◌
-  under_images h = rw h
+-- Whether a list packs under images.
+
+module _ (ims : List Image) (ns : List Number) where
+  -- refused as they are
+  pub list_images : {x y : ℕ} → check_images ims ≡ refused x y → checked_only (pack_under ims ns) ≡ refused x y
+  unfolding pack_under checked_only ◌then◌
+  list_images h = rw h
 
   module _ (good : check_images ims ≡ done tt) where
-    -- what the list is packed to, and then the room
-    under_list : {a : Answer (List ℕ)} → pack_list ims ns ≡ a → packing_under ims ns room ≡ (a then within room)
-    unfolding packing_under
-    under_list h = rw (pack_under_checked ims ns good, h)
-
     -- 10 for a list of another length
-    pub under_length : (length ns ≡ length ims → ⊥) → packing_under ims ns room ≡ refused 10 0
-    unfolding pack_list ◌then◌
-    under_length h = under_list {a = refused 10 0} (rw (ne_eqb (length ns) (length ims) h))
+    pub list_other : (length ns ≡ length ims → ⊥) → checked_only (pack_under ims ns) ≡ refused 10 0
+    unfolding pack_under pack_list checked_only ◌then◌
+    list_other h = rw (good, ne_eqb (length ns) (length ims) h)
 
-    module _ (same : length ns ≡ length ims) where
-      -- a list of the right length is packed column by column
-      list_columns : pack_list ims ns ≡ pack_columns 0 ims ns
-      unfolding pack_list
-      list_columns = rw (eq-eqb (length ns) (length ims) same)
-
-      -- refused as the columns are
-      pub under_columns : {x y : ℕ} → pack_columns 0 ims ns ≡ refused x y → packing_under ims ns room ≡ refused x y
-      unfolding ◌then◌
-      under_columns h = under_list (list_columns ∙ h)
-
-      module _ {body : List ℕ} (packed : pack_columns 0 ims ns ≡ done body) where
-        -- 6 where the body is longer than the buffer
-        pub under_room : room < length body → packing_under ims ns room ≡ refused 6 0
-        unfolding ◌then◌ within
-        under_room h = under_list (list_columns ∙ packed) ∙ rw (lt-ltb room (length body) h)
-
-        -- else the body
-        pub under_done : length body ≤ room → packing_under ims ns room ≡ done body
-        unfolding ◌then◌ within
-        under_done h = under_list (list_columns ∙ packed) ∙ rw (le-ltb room (length body) h)
+    -- a list of the right length is refused as its columns are
+    pub list_each : length ns ≡ length ims → checked_only (pack_under ims ns) ≡ checked_only (pack_columns 0 ims ns)
+    unfolding pack_under pack_list ◌then◌
+    list_each same = rw (good, eq-eqb (length ns) (length ims) same)
 
 -- Published: a list is packed exactly where it packs, and its body has the length that the images say.
 
@@ -340,3 +321,43 @@ packed_bytes ims ns h = let e = packs_packed (packed_only ims ns h) in cc
 -- and as long as the images say
 pub packed_length : (ims : List Image) (ns : List Number) {body : List ℕ} → pack_list ims ns ≡ done body → length body ≡ body_size ims
 packed_length ims ns h = ap length (packed_bytes ims ns h) ∙ bytes_length ims ns (packed_count ims ns h)
+
+-- a list that packs under images: they are not refused, and each of its numbers packs under its own
+pub record Packable (ims : List Image) (ns : List Number) : Type 0 where
+  pub sound : Sound ims
+  pub packs : AllPack ims ns
+  pub body : pack_under ims ns ≡ done (bytes_of ims ns)
+  pub size : length (bytes_of ims ns) ≡ body_size ims
+
+module _ (ims : List Image) (ns : List Number) where
+  -- which is where the list is not refused
+  pub packable : checked_only (pack_under ims ns) ≡ done tt → Packable ims ns
+  unfolding pack_under
+  packable h =
+      let d = checked_done (pack_under ims ns) h in
+      let both = then_last (check_images ims) (pack_list ims ns) d.1 in
+      let packs = packed_only ims ns both.1 in
+      record {
+        sound = checks_checked ims both.0;
+        packs = packs;
+        body = pack_under_checked ims ns both.0 ∙ packs_packed packs;
+        size = bytes_length ims ns (packs_length packs);
+      }
+
+  module _ (room : ℕ) where
+    -- else it is refused whatever the room
+    pub list_refused : {x y : ℕ} → checked_only (pack_under ims ns) ≡ refused x y → packing_under ims ns room ≡ refused x y
+    unfolding packing_under ◌then◌
+    list_refused h = rw (checked_refused (pack_under ims ns) h)
+
+    -- 6 where its body is longer than the buffer
+    pub list_room : Packable ims ns → room < body_size ims → packing_under ims ns room ≡ refused 6 0
+    unfolding packing_under ◌then◌ within
+    list_room p h = rw (p.body, lt-ltb room (length (bytes_of ims ns)) (omega (arith, p.size)))
+
+    -- else the body
+    pub list_done : {body : List ℕ} → Packable ims ns → pack_columns 0 ims ns ≡ done body → body_size ims ≤ room → packing_under ims ns room ≡ done body
+    unfolding packing_under ◌then◌ within
+    list_done p packed h =
+        let same = one_answer (packs_columns 0 p.packs) packed in
+        rw (p.body, le-ltb room (length (bytes_of ims ns)) (omega (arith, p.size)), same)

@@ -25,6 +25,7 @@ pub mod FrontLaws
 pub mod PacksTheorem
 pub mod RemainderTheorem
 pub mod PartLaws
+pub mod PartedLaws
 pub mod BlankLaws
 pub mod TextLaws
 pub mod FormLaws

@@ -118,7 +118,7 @@ module _ (bytes : List ℕ) where
   -- Converting.
 
   -- what is read as a number: its length, and the reading's number
-  read_done : {r : TextNumber} → read_text bytes ≡ done r → (legal_length bytes ≡ r.used) × ((reading_in bytes).number ≡ done r.number)
+  pub read_done : {r : TextNumber} → read_text bytes ≡ done r → (legal_length bytes ≡ r.used) × ((reading_in bytes).number ≡ done r.number)
   read_done {r} h = go (reading_in bytes).number refl
     where
       go : (a : Answer Number) → (reading_in bytes).number ≡ a → (legal_length bytes ≡ r.used) × ((reading_in bytes).number ≡ done r.number)

@@ -18,30 +18,16 @@ use Rattle.decimal.specs.Truncation.{Truncated, truncation}
 use Rattle.decimal.proofs.TruncationLaws.{truncation_fit}
 use Rattle.codec.specs.Lists.{max_columns}
 use Rattle.codec.specs.Alpha.{blank_byte, alpha_text, alpha_under, alpha_of, alpha_texts, parted}
-use Rattle.codec.specs.Text.{TextParts, Legal, HasForm, fraction_digits, all_digits_of, text_bytes, text_value, blanks_in, sign_part, sign_part_in, sign_part_bytes, digits_in, point_in, power_in, numeral_in, parts_in, reading_in, legal_length, read_texts}
+use Rattle.codec.specs.Text.{TextParts, Legal, HasForm, fraction_digits, text_bytes, text_value, sign_part, sign_part_in, sign_part_bytes, digits_in, point_in, power_in, numeral_in, parts_in, reading_in, legal_length, read_texts}
 use Rattle.codec.specs.Walking.{bytes_before, number_place, FirstPlace, stop_before, stopped, numbers_in, walking, line_end, LineBack}
 use Rattle.decimal.proofs.AnswerLaws.{then_done}
-use Rattle.codec.proofs.TextLaws.{text_length_lem, text_long, legal_some, reading_number}
-use Rattle.codec.proofs.PartLaws.{stops_byte, sign_part_no_blank}
-use Rattle.codec.proofs.FormLaws.{Ends, ends_blanks, ends_last, text_append, starts_numeral, parts_before, converts_form}
+use Rattle.codec.proofs.TextLaws.{text_length_lem, text_long}
+use Rattle.codec.proofs.PartLaws.{stops_byte}
+use Rattle.codec.proofs.FormLaws.{Ends, ends_blanks, ends_last, text_append, converts_form}
+use Rattle.codec.proofs.PartedLaws.{length_before, value_before, bare, bare_bytes, bare_value, bare_blanks, blanked, parted_blanked}
 use Rattle.codec.proofs.AlphaForm.{alpha_parts, alpha_form, alpha_reads_back}
 use Rattle.codec.proofs.LongestTheorem.{empty_length}
 use Rattle.codec.proofs.WalkLaws.{stop_end, stop_none, behind, numbers_stop, numbers_number}
-
--- One text before bytes that end it.
-
--- its length is the legal length
-length_before : (t : TextParts) → Legal t.numeral → (r : List ℕ) → Ends t.behind r → legal_length (text_bytes t ++ r) ≡ length (text_bytes t)
-length_before t legal r ends =
-    let parts = parts_before t legal r ends in
-    legal_some (text_bytes t ++ r) (λ none. omega (arith, ap (λ (u : TextParts). length (all_digits_of u.numeral)) parts, legal.some))
-    ∙ ap (λ (u : TextParts). length (text_bytes u)) parts
-
--- its value is the next number
-value_before : (t : TextParts) → Legal t.numeral → (r : List ℕ) → Ends t.behind r → (reading_in (text_bytes t ++ r)).number ≡ text_value t
-value_before t legal r ends =
-    reading_number (text_bytes t ++ r) (λ none. omega (arith, length_before t legal r ends, text_long t, legal.some))
-    ∙ ap text_value (parts_before t legal r ends)
 
 -- so it is read, and then what is behind it
 text_walks : (t : TextParts) → Legal t.numeral → {n : Number} → text_value t ≡ done n → (r : List ℕ) → Ends t.behind r → (left index place : ℕ)
@@ -53,20 +39,9 @@ text_walks t legal {n} value r ends left index place =
     ∙ (λ i. behind (n ∷ []) (numbers_in left (suc index) (place + size i) (drop (size i) (text_bytes t ++ r))))
     ∙ ap (λ (l : List ℕ). behind (n ∷ []) (numbers_in left (suc index) (place + length (text_bytes t)) l)) (drop-append_seam (text_bytes t) r)
 
--- Blanks go over from a text to the one before it.
-
--- a text without the blanks before it
-abbrev bare : TextParts → TextParts
-bare t = record { before = 0; sign = t.sign; numeral = t.numeral; behind = t.behind }
-
 -- a text with so many blanks behind it
 abbrev trailed : TextParts → ℕ → TextParts
 trailed t n = record { before = t.before; sign = t.sign; numeral = t.numeral; behind = n }
-
--- the blanks before a text
-bare_bytes : (t : TextParts) (r : List ℕ) → text_bytes t ++ r ≡ times t.before blank_byte ++ (text_bytes (bare t) ++ r)
-unfolding text_bytes times
-bare_bytes t r = append_assoc (times t.before blank_byte) (text_bytes (bare t)) r
 
 -- blanks behind a text that has none
 trailed_bytes : (t : TextParts) → t.behind ≡ 0 → (n : ℕ) (r : List ℕ) → text_bytes t ++ (times n blank_byte ++ r) ≡ text_bytes (trailed t n)
@@ -74,21 +49,10 @@ trailed_bytes : (t : TextParts) → t.behind ≡ 0 → (n : ℕ) (r : List ℕ) 
 unfolding times
 trailed_bytes t none n r = rw (text_append t (times n blank_byte ++ r), text_append (trailed t n) r, none)
 
--- neither changes the value
-bare_value : (t : TextParts) → text_value (bare t) ≡ text_value t
-unfolding text_value
-bare_value t = refl
-
+-- which changes no value
 trailed_value : (t : TextParts) (n : ℕ) → text_value (trailed t n) ≡ text_value t
 unfolding text_value
 trailed_value t n = refl
-
--- a bare text begins with no blank
-bare_blanks : (t : TextParts) → Legal t.numeral → (r : List ℕ) → blanks_in (text_bytes (bare t) ++ r) ≡ 0
-unfolding times
-bare_blanks t legal r =
-    ap blanks_in (text_append (bare t) r)
-    ∙ sign_part_no_blank t.sign _ (starts_numeral t.numeral legal _)
 
 -- Texts.
 
@@ -108,17 +72,6 @@ converted : {texts : List (List ℕ)} {ns : List Number} → AllRead texts ns �
 unfolding read_texts ◌then◌
 converted none = refl
 converted (more t form last value all) = rw (converts_form form, value, converted all)
-
--- a blank before each text
-unfoldable blanked : List (List ℕ) → List ℕ
-blanked [] = []
-blanked (text ∷ texts) = blank_byte ∷ (text ++ blanked texts)
-
--- so they stand behind the first of texts that are parted by one
-parted_blanked : (text : List ℕ) (texts : List (List ℕ)) → parted (text ∷ texts) ≡ text ++ blanked texts
-unfolding parted blanked
-parted_blanked text [] = sym (append-nil text)
-parted_blanked text (next ∷ texts) = ap (λ (l : List ℕ). text ++ (blank_byte ∷ l)) (parted_blanked next texts)
 
 -- bytes that end a line
 record LineEnd (z : List ℕ) : Type 0 where

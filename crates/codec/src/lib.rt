@@ -19,7 +19,7 @@ pub use answers::written_part;
 pub use columns::{column_size, sign_count};
 pub use contents::{Contents, read_alone, read_contents};
 pub use lists::{COLUMNS, Images, Numbers, Remainders};
-pub use packing::{pack, pack_under};
+pub use packing::{check_list, pack, pack_under};
 pub use remainders::{Packed, pack_with_remainders};
 pub use text::{NO_NUMBER, Reading, TextNumber, convert, legal_length, read_text_number};
 pub use unpacking::{unpack, unpack_under};

@@ -8,7 +8,7 @@ ghost use Rattle.decimal.specs.Truncation.{Fit, truncated_to};
 ghost use Rattle.codec.specs.Answers.{stored_in, sized};
 ghost use Rattle.codec.specs.Columns.{column_size, body_size};
 ghost use Rattle.codec.specs.Alpha.{zero_at};
-ghost use Rattle.codec.specs.Packing.{column_bytes, column_halves, exponent_halves, packing, packing_under, pack_columns, AllPack, sign_halves, Held, held_by};
+ghost use Rattle.codec.specs.Packing.{column_bytes, column_halves, exponent_halves, pack_under, packing, packing_under, pack_columns, AllPack, sign_halves, Held, held_by};
 
 use crate::columns::{column_size, half_count};
 use crate::contents::{body_size, check_images, read_alone};
@@ -112,17 +112,25 @@ fn write_columns(images: &[Image], numbers: &[Number], body: &mut [u8])
     }
 }
 
+// Whether a list can be packed under images: refused as packing it there is, but for the room.
+#[tactic(auto, using(crate::proofs::BodyLaws::list_images, crate::proofs::BodyLaws::list_other, crate::proofs::BodyLaws::list_each))]
+pub fn check_list(images: &[Image], numbers: &[Number]) -> Result<(), Refusal>
+    ensures { meaning result ≡ checked_only (pack_under images.now numbers.now) }
+{
+    check_images(images)?;
+    if numbers.len() != images.len() {
+        return Err(Refusal::WRONG_COUNT);
+    }
+    check_numbers(images, numbers)
+}
+
 // Packs a list under images into a buffer: the body stands at its start, and the bytes behind it stay.
 // Refused as the images are, then with 10, items from the left with 3, 4, 5 and the column, last 6; then no byte changes.
 pub fn pack_under(images: &[Image], numbers: &[Number], buffer: &mut [u8]) -> Result<usize, Refusal>
     ensures answer { meaning result ≡ sized (packing_under images.now numbers.now (length buffer.old)) }
     ensures bytes { buffer.new ≡ stored_in (packing_under images.now numbers.now (length buffer.old)) buffer.old }
 {
-    check_images(images)?;
-    if numbers.len() != images.len() {
-        return Err(Refusal::WRONG_COUNT);
-    }
-    check_numbers(images, numbers)?;
+    check_list(images, numbers)?;
     let size = body_size(images);
     if buffer.len() < size {
         return Err(Refusal::NO_ROOM);
