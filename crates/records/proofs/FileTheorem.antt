@@ -173,7 +173,7 @@ grown used file body ns table size reads packs =
     }
 
 -- the new used length holds the file and the body behind it
-after_put :
+pub after_put :
     (buffer : List ℕ) (used : ℕ) (body : List ℕ) → used ≤ length buffer → file_after buffer used body ≡ file_before buffer used ++ body
 unfolding written
 after_put buffer used body h =

@@ -5,6 +5,9 @@ pub mod FieldTails
 pub mod FieldRuns
 pub mod FieldTheorem
 pub mod MarkLaws
+pub mod EnterLaws
+pub mod EnterTheorem
+pub mod EntryLaws
 pub mod FieldLaws
 pub mod ReadFieldLaws
 pub mod StrayLaws
@@ -32,8 +35,14 @@ pub mod ReplaceTheorem
 pub mod ReserveLaws
 pub mod ReserveTheorem
 pub mod ReserveRefusals
+pub mod CutLaws
+pub mod CutTheorem
+pub mod RelistTheorem
 pub mod ReportLaws
 pub mod RecordLaws
 pub mod LinesLaws
+pub mod LinesTheorem
+pub mod JoinedLaws
+pub mod LineTheorem
 pub mod ListingLaws
 pub mod ListingTheorem

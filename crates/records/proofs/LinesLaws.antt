@@ -49,7 +49,7 @@ pub record LinesStep (ims : List Image) (b : List ℕ) (bs : List (List ℕ)) (l
   pub rest : record_lines ims bs ≡ done others
   pub joined : record_line texts ++ others ≡ lines
 
-lines_view :
+pub lines_view :
     (ims : List Image) (b : List ℕ) (bs : List (List ℕ)) {lines : List ℕ} → record_lines ims (b ∷ bs) ≡ done lines → LinesStep ims b bs lines
 unfolding record_lines
 lines_view ims b bs {lines} h =

@@ -16,10 +16,10 @@ use Rattle.records.specs.Files.{read_file, read_used}
 use Rattle.records.specs.Reserving.{reserved, check_place, read_for, read_reserved, filled}
 
 -- a file whose bodies have one byte, under the column ##, and one whose bodies have two, under ## and #
-pub bodies_of_one : List ℕ → List ℕ
+unfoldable pub bodies_of_one : List ℕ → List ℕ
 bodies_of_one bs = 1 ∷ (2 ∷ (hash_byte ∷ (hash_byte ∷ bs)))
 
-pub bodies_of_two : List ℕ → List ℕ
+unfoldable pub bodies_of_two : List ℕ → List ℕ
 bodies_of_two bs = 2 ∷ (2 ∷ (hash_byte ∷ (hash_byte ∷ (1 ∷ (hash_byte ∷ bs)))))
 
 -- a place that was reserved

@@ -14,7 +14,12 @@ pub mod Adding
 pub mod Reserving
 pub mod TwoCalls
 pub mod KnownReservations
+pub mod Cutting
+pub mod KnownCuts
 pub mod Listing
 pub mod Known
 pub mod Demand
+pub mod EnteredBack
+pub mod Entering
+pub mod KnownEntries
 pub mod WholeRead

@@ -93,7 +93,7 @@ fn write_count(word: &[u8], value: usize, target: &mut [u8])
 }
 
 // Whether so many lines of a length, and other bytes, are more bytes than a buffer has.
-fn is_longer(lines: usize, length: usize, others: usize, room: usize) -> bool
+pub(crate) fn is_longer(lines: usize, length: usize, others: usize, room: usize) -> bool
     requires { 0 < length }
     ensures { result ≡ ltb room (others + lines * length) }
 {

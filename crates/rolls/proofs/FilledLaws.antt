@@ -1,24 +1,20 @@
 -- Laws of bodies of one size, one behind the other: taken apart and joined, and those of a file. Assumes nothing.
-use Rattle.std.proofs.Common.{◌≡◌, ℕ, zero, suc, ◌+◌, ◌*◌, ◌/◌, ◌%◌, ◌<◌, ◌≤◌, false, List, [], ◌∷◌, ◌++◌, length, length-append, take, drop, refl, ap, ap₂, sym, ◌∙◌, arith, zero-mul, get_or}
-use lib.Seq.{take_at, length-take-le, drop_at}
+use Rattle.std.proofs.Common.{◌≡◌, ℕ, zero, suc, ◌+◌, ◌*◌, ◌/◌, ◌%◌, ◌<◌, ◌≤◌, false, List, [], ◌∷◌, length, take, drop, ap, ap₂, sym, ◌∙◌, arith, zero-mul, get_or}
+use lib.Seq.{length-take-le}
 use lib.ListN.{length-drop, take-append-drop}
-use Rattle.std.proofs.lemmas.List.{nil_from_length}
 use native.Mathlib.Nat.{div-add-mod', suc-mul}
 use Rattle.std.proofs.Math.Nat.{mul-div_cancel}
 use Rattle.std.specs.List.{concat}
-use Rattle.records.specs.Files.{bodies, read_file, record_count, bodies_in}
+use Rattle.records.specs.Files.{bodies, record_count, bodies_in}
 use Rattle.records.proofs.BodiesLaws.{bodies_ahead}
 use Rattle.rolls.specs.Merging.{all_bodies}
 use borrow.Author.Tests.{eq-eqb}
 use lib.Dec.{eqb}
 use Rattle.rolls.proofs.FallLaws.{not_both}
-use Rattle.rolls.proofs.MergeLaws.{Each, each_first, each_others}
-use Rattle.decimal.specs.Answer.{done}
+use Rattle.records.proofs.JoinedLaws.{joined_all}
 use Rattle.codec.specs.Columns.{body_size}
 use Rattle.codec.specs.Contents.{Table}
 use Rattle.codec.specs.Order.{Bytes}
-use Rattle.codec.proofs.ReadBackTheorem.{bytes_take, bytes_drop}
-use Rattle.records.proofs.FileLaws.{file_told}
 
 -- bytes that are bodies of one size, one behind the other
 pub record Filled (size : ℕ) (bytes : List ℕ) : Type 0 where
@@ -73,36 +69,8 @@ module _ {size : ℕ} (some : 0 < size) where
       }
 
   -- all of them joined are the bytes
-  joined_all : (count : ℕ) (bytes : List ℕ) → length bytes ≡ count * size → concat (bodies count size bytes) ≡ bytes
-  unfolding bodies
-  joined_all zero bytes h = sym (nil_from_length bytes (h ∙ zero-mul size))
-  joined_all (suc n) bytes h =
-      ap (λ (l : List ℕ). take size bytes ++ l) (joined_all n (drop size bytes) (omega (arith, length-drop size bytes, suc-mul n size)))
-      ∙ take-append-drop size bytes
-
   pub filled_joined : {bytes : List ℕ} → Filled size bytes → concat (all_bodies size bytes) ≡ bytes
-  filled_joined {bytes} f = ap (λ (n : ℕ). concat (bodies n size bytes)) (filled_count f) ∙ joined_all f.count bytes f.fills
-
--- Bodies of one size, joined.
-
--- a body has this size
-abbrev pub Sized : ℕ → List ℕ → Type 0
-Sized size b = length b ≡ size
-
-module _ (size : ℕ) where
-  pub joined_length : (bs : List (List ℕ)) → Each (Sized size) bs → length (concat bs) ≡ length bs * size
-  joined_length [] e = sym (zero-mul size)
-  joined_length (b ∷ bs) e =
-      length-append b (concat bs) ∙ omega (arith, each_first e, joined_length bs (each_others e), suc-mul (length bs) size)
-
-  -- they are taken off it again
-  pub joined_bodies : (bs : List (List ℕ)) → Each (Sized size) bs → bodies (length bs) size (concat bs) ≡ bs
-  unfolding bodies
-  joined_bodies [] e = refl
-  joined_bodies (b ∷ bs) e =
-      ap₂ (λ (x : List ℕ) (y : List (List ℕ)). x ∷ y)
-      (take_at b (concat bs) size (each_first e))
-      (ap (bodies (length bs) size) (drop_at b (concat bs) size (each_first e)) ∙ joined_bodies bs (each_others e))
+  filled_joined {bytes} f = ap (λ (n : ℕ). concat (bodies n size bytes)) (filled_count f) ∙ joined_all size f.count bytes f.fills
 
 -- The bodies of a file.
 
@@ -112,27 +80,9 @@ unfolding bodies_in record_count
 bodies_behind table file =
     ap (λ (n : ℕ). bodies (n / body_size table.images) (body_size table.images) (drop table.size file)) (sym (length-drop table.size file))
 
--- and joined they are what stands there
-pub bodies_joined_are : (table : Table) (file : List ℕ) → read_file file ≡ done table → concat (bodies_in table file) ≡ drop table.size file
-bodies_joined_are table file reads =
-    let told = file_told file reads in
-    ap concat (bodies_behind table file)
-    ∙ filled_joined told.some
-    (filled_whole (body_size table.images) (drop table.size file) (ap (λ (n : ℕ). n % body_size table.images) (length-drop table.size file) ∙ told.whole))
-
 -- Bytes.
 
 -- lent bytes are bytes
 pub bytes_known : (bytes : List ℕ) → ((i : ℕ) → get_or bytes i 0 < 256) → Bytes bytes
 bytes_known [] h = Bytes.none
 bytes_known (b ∷ bs) h = Bytes.more (h 0) (bytes_known bs (λ i. h (suc i)))
-
--- so are those of each body
-each_bytes : (n size : ℕ) (bytes : List ℕ) → Bytes bytes → Each Bytes (bodies n size bytes)
-unfolding bodies
-each_bytes zero size bytes h = Each.none
-each_bytes (suc n) size bytes h = Each.more (bytes_take size h) (each_bytes n size (drop size bytes) (bytes_drop size h))
-
-pub bodies_bytes : (table : Table) (file : List ℕ) → Bytes file → Each Bytes (bodies_in table file)
-unfolding bodies_in
-bodies_bytes table file h = each_bytes (record_count table file) (body_size table.images) (drop table.size file) (bytes_drop table.size h)

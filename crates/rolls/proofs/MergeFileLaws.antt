@@ -1,8 +1,5 @@
 -- Laws of a file that is made of a contents and bodies, and of the keys of bodies that are read. Assumes nothing.
-use Rattle.std.proofs.Common.{◌≡◌, ℕ, ◌-◌, ◌*◌, ◌/◌, ◌%◌, List, [], ◌∷◌, length, map, get_or, drop, refl, ap, ap₂, sym, ◌∙◌}
-use lib.Seq.{length-take-le, take_at, drop_at}
-use lib.ListN.{length-drop}
-use Rattle.std.proofs.Math.Nat.{mul-div_cancel, mul-mod_left}
+use Rattle.std.proofs.Common.{◌≡◌, ℕ, List, [], ◌∷◌, length, map, get_or, drop, refl, ap, sym}
 use Rattle.std.specs.List.{concat}
 use Rattle.decimal.specs.declared.image.Image.{Image}
 use Rattle.decimal.specs.declared.number.Number.{Number}
@@ -10,17 +7,18 @@ use Rattle.decimal.specs.Answer.{Answer, done, ◌then◌, given}
 use Rattle.decimal.specs.Number.{zero_number}
 use Rattle.decimal.proofs.AnswerLaws.{one_answer}
 use Rattle.codec.specs.Columns.{body_size}
-use Rattle.codec.specs.Contents.{Table}
+use Rattle.codec.specs.Contents.{Table, read_alone}
 use Rattle.codec.specs.Unpacking.{unpack_body}
-use Rattle.codec.proofs.FrontLaws.{contents_front}
+use Rattle.codec.proofs.FrontLaws.{contents_alone}
 use Rattle.codec.proofs.ReadBackTheorem.{body_view}
-use Rattle.records.specs.Files.{read_file, record_count, bodies, bodies_in}
-use Rattle.records.proofs.FileLaws.{file_done, file_told}
+use Rattle.records.specs.Files.{read_file, record_count, bodies_in}
+use Rattle.records.proofs.FileLaws.{file_told}
 use Rattle.rolls.specs.Searching.{keys_of}
 use Rattle.rolls.specs.Merging.{key_of, contents_in, file_with}
-use Rattle.rolls.proofs.MergeLaws.{Each, each_so, each_first, each_others}
+use Rattle.records.proofs.JoinedLaws as joined
+use Rattle.records.proofs.JoinedLaws.{Each, each_so, each_first, each_others}
 use Rattle.rolls.proofs.AskTheorem.{keys_view}
-use Rattle.rolls.proofs.FilledLaws.{Sized, joined_length, joined_bodies}
+use Rattle.records.proofs.JoinedLaws.{Sized, joined_length, joined_bodies}
 
 -- A file made of the contents of another and bodies.
 
@@ -28,40 +26,28 @@ module _ (file : List ℕ) {table : Table} (reads : read_file file ≡ done tabl
   abbrev made : List ℕ
   made = file_with (contents_in table file) bs
 
-  -- the contents has its length
-  front_length : length (contents_in table file) ≡ table.size
-  front_length = length-take-le table.size file (file_told file reads).within
+  alone : read_alone (contents_in table file) ≡ done table
+  alone = contents_alone file (file_told file reads).contents
 
-  -- it stands at the front
+  -- the contents stands at the front
   pub made_contents : contents_in table made ≡ contents_in table file
-  made_contents = take_at (contents_in table file) (concat bs) table.size front_length
+  made_contents = joined.made_contents (contents_in table file) alone bs sized
 
   -- and the bodies behind it
   pub made_behind : drop table.size made ≡ concat bs
-  made_behind = drop_at (contents_in table file) (concat bs) table.size front_length
-
-  -- as many bytes as bodies
-  behind_length : length made - table.size ≡ length bs * body_size table.images
-  behind_length = sym (length-drop table.size made) ∙ ap length made_behind ∙ joined_length (body_size table.images) bs sized
+  made_behind = joined.made_behind (contents_in table file) alone bs sized
 
   -- so it is a file with the same contents,
   pub made_reads : read_file made ≡ done table
-  made_reads =
-      file_done made (contents_front file (concat bs) (file_told file reads).contents)
-      (ap (λ (n : ℕ). n % body_size table.images) behind_length ∙ mul-mod_left (length bs) (body_size table.images))
+  made_reads = joined.made_reads (contents_in table file) alone bs sized
 
   -- of as many records,
   pub made_count : record_count table made ≡ length bs
-  unfolding record_count
-  made_count =
-      ap (λ (n : ℕ). n / body_size table.images) behind_length ∙ mul-div_cancel (length bs) (file_told file reads).some
+  made_count = joined.made_count (contents_in table file) alone bs sized
 
   -- which have these bodies
   pub made_bodies : bodies_in table made ≡ bs
-  unfolding bodies_in
-  made_bodies =
-      ap₂ (λ (n : ℕ) (l : List ℕ). bodies n (body_size table.images) l) made_count made_behind
-      ∙ joined_bodies (body_size table.images) bs sized
+  made_bodies = joined.made_bodies (contents_in table file) alone bs sized
 
 -- Bodies that are read.
 

@@ -2,23 +2,7 @@
 use Rattle.std.proofs.Common.{◌≡◌, ℕ, ◌+◌, Bool, true, false, List, [], ◌∷◌, length, length-append, refl, ap, sym, ◌∙◌, arith}
 use Rattle.std.specs.List.{concat}
 use Rattle.rolls.specs.Merging.{merged}
-
--- each body of a list has a property
-pub data Each (P : List ℕ → Type 0) : List (List ℕ) → Type 0 where
-  none : Each P []
-  more : {b : List ℕ} {bs : List (List ℕ)} → P b → Each P bs → Each P (b ∷ bs)
-
--- the first has it, and the others
-pub each_first : {P : List ℕ → Type 0} {b : List ℕ} {bs : List (List ℕ)} → Each P (b ∷ bs) → P b
-each_first (Each.more p e) = p
-
-pub each_others : {P : List ℕ → Type 0} {b : List ℕ} {bs : List (List ℕ)} → Each P (b ∷ bs) → Each P bs
-each_others (Each.more p e) = e
-
--- another property that follows
-pub each_so : {P Q : List ℕ → Type 0} {bs : List (List ℕ)} → ((b : List ℕ) → P b → Q b) → Each P bs → Each Q bs
-each_so f Each.none = Each.none
-each_so f (Each.more {b} p e) = Each.more (f b p) (each_so f e)
+use Rattle.records.proofs.JoinedLaws.{Each, each_first, each_others}
 
 -- What holds of two lists and the merged one, step by step.
 module _

@@ -20,8 +20,10 @@ use Rattle.records.proofs.FileLaws.{file_told}
 use Rattle.rolls.specs.declared.merging.Whole.{Whole}
 use Rattle.rolls.specs.Merging.{WholeFile, read_whole, whole_of, contents_in, check_pair, common_table, key_of, by_key, merged, file_with, merged_file, merging, all_bodies, not_behind}
 use Rattle.rolls.specs.MergedFiles.{Mergeable}
-use Rattle.rolls.proofs.MergeLaws.{Each, each_first, each_others, merged_alike, merged_joined}
-use Rattle.rolls.proofs.FilledLaws.{filled_whole, filled_joined, bodies_behind, bodies_bytes}
+use Rattle.records.proofs.JoinedLaws.{Each, each_first, each_others}
+use Rattle.rolls.proofs.MergeLaws.{merged_alike, merged_joined}
+use Rattle.records.proofs.JoinedLaws.{bodies_bytes}
+use Rattle.rolls.proofs.FilledLaws.{filled_whole, filled_joined, bodies_behind}
 use Rattle.rolls.proofs.MergeFileLaws.{BodyRead, each_read}
 use Rattle.rolls.proofs.MergeCallLaws.{pair_view}
 use Rattle.rolls.proofs.KeyOrder.{FirstColumn, first_column, keys_compare}

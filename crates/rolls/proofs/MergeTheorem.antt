@@ -15,7 +15,8 @@ use Rattle.rolls.specs.Falling.{at_most, NeverFall, fall}
 use Rattle.rolls.specs.Merging.{Entry, is_from, of_camera, times, first_at, IsMerge, merged, by_key}
 use Rattle.rolls.proofs.FallLaws.{not_both, at_most_transitive, at_most_itself}
 use Rattle.rolls.proofs.FallTheorem.{fall_view, fall_tail, fall_exactly}
-use Rattle.rolls.proofs.MergeLaws.{Each, each_first, each_others, each_so, merged_by, merged_none, none_merged, merged_first, merged_second, merged_each}
+use Rattle.records.proofs.JoinedLaws.{Each, each_first, each_others, each_so}
+use Rattle.rolls.proofs.MergeLaws.{merged_by, merged_none, none_merged, merged_first, merged_second, merged_each}
 
 -- Two keys.
 

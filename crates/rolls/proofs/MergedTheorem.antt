@@ -27,10 +27,11 @@ use Rattle.rolls.specs.Merging.{of_camera, WholeFile, contents_in, common_table,
 use Rattle.rolls.specs.MergedFiles.{Mergeable, MergedFile, HasRecord}
 use Rattle.rolls.proofs.FallTheorem.{fall_exactly}
 use Rattle.rolls.proofs.PageLaws.{kind_fine}
-use Rattle.rolls.proofs.MergeLaws.{Each, merged_each, merged_length, merged_joined, merged_none, none_merged}
+use Rattle.records.proofs.JoinedLaws.{Each}
+use Rattle.rolls.proofs.MergeLaws.{merged_each, merged_length, merged_joined, merged_none, none_merged}
 use Rattle.rolls.proofs.MergeTheorem.{merge_exactly, entries_count, camera_stands}
 use Rattle.rolls.proofs.MergeCallLaws.{whole_fine, pair_fine}
-use Rattle.rolls.proofs.FilledLaws.{Sized, bodies_joined_are}
+use Rattle.records.proofs.JoinedLaws.{Sized, bodies_joined_are}
 use Rattle.rolls.proofs.MergePairLaws.{common_view}
 use Rattle.rolls.proofs.MergeFileLaws.{BodyRead, each_read, made_reads, made_contents, made_bodies, read_sized, keys_are}
 

@@ -1,0 +1,51 @@
+-- A listing read back: what entering and listing say of each other.
+use Rattle.std.specs.Prelude.{ℕ, ◌≤◌, ◌≡◌, List, [], ◌∷◌, ◌++◌, true, length, take}
+use Rattle.decimal.specs.declared.image.Image.{Image}
+use Rattle.decimal.specs.declared.number.Number.{Number}
+use Rattle.decimal.specs.Answer.{done, pick}
+use Rattle.codec.specs.Alpha.{alpha_texts}
+use Rattle.codec.specs.Contents.{Table, read_alone}
+use Rattle.codec.specs.Order.{Truncations}
+use Rattle.records.specs.Files.{read_file}
+use Rattle.records.specs.Listing.{columns_word, record_line, listing, listing_of}
+use Rattle.records.specs.Entering.{read_line, lines_in, entered, begins_with, is_foot, entry_of, entering}
+
+-- "for every file that the listing takes, entering its listing under the same contents gives the file again, byte for byte": a listing loses
+-- nothing of a file
+pub record EntersBack (file bytes : List ℕ) : Type 0 where
+  -- the file's contents is the bytes that it begins with
+  pub table : Table
+  pub reads : read_file file ≡ done table
+  -- the file is entered again, into every buffer that it has room in
+  pub again : entry_of (take table.size file) bytes ≡ entered file
+  pub called : (room : ℕ) → length file ≤ room → entering (take table.size file) bytes room ≡ entered file
+
+-- "what is entered and listed shows each number's truncation"
+
+-- the lines behind a first one that begins with `columns`
+unfoldable pub behind_columns : List (List ℕ) → List (List ℕ)
+behind_columns [] = []
+behind_columns (line ∷ lines) = pick (begins_with columns_word line) lines (line ∷ lines)
+
+-- lines of a text, and the lines that the listing of their records has
+pub data Relisted (ims : List Image) : List (List ℕ) → List ℕ → Type 0 where
+  none : Relisted ims [] []
+  -- a last line with a count has no record
+  foot : {line : List ℕ} → is_foot line [] ≡ true → Relisted ims (line ∷ []) []
+  -- a line with numbers: the listing has the alpha texts of their truncations
+  more :
+      {line : List ℕ} {lines : List (List ℕ)} {ns ts : List Number} {texts : List (List ℕ)} {others : List ℕ}
+      → read_line line ≡ done ns
+      → Truncations ims ns ts
+      → alpha_texts ims ts ≡ done texts
+      → Relisted ims lines others
+      → Relisted ims (line ∷ lines) (record_line texts ++ others)
+
+-- the listing of the file of a text
+pub record ListsBack (contents text file : List ℕ) : Type 0 where
+  pub table : Table
+  pub reads : read_file file ≡ done table
+  pub alone : read_alone contents ≡ done table
+  pub lines : List ℕ
+  pub shown : listing file ≡ done (listing_of table file lines)
+  pub relisted : Relisted table.images (behind_columns (lines_in text)) lines
