@@ -11,6 +11,7 @@ use crate::shown::{
 use crate::words::whole;
 use codec::Stop;
 use decimal::{Image, Number, Refusal, Sign, Truncation};
+use records::EntryRefusal;
 use rolls::POSITIONS;
 use std::cmp::Ordering;
 use std::io;
@@ -216,6 +217,14 @@ pub(crate) fn show<W: Write>(out: &mut W, file: &[u8], index: &[u8]) -> io::Resu
     print_bytes(out, records::shown_body(file, record))
 }
 
+// whole FILE: the whole length, and the count of bytes behind it.
+pub(crate) fn whole_length<W: Write>(out: &mut W, file: &[u8]) -> io::Result<()> {
+    print_answer(out, records::whole_length(file), |out, whole| {
+        print_count(out, whole.length)?;
+        print_count(out, whole.behind)
+    })
+}
+
 // list BUFFER FILE
 pub(crate) fn list(out: &mut impl Write, buffer: &mut [u8], file: &[u8]) -> io::Result<()> {
     let answer = records::list(file, &mut *buffer);
@@ -328,4 +337,21 @@ pub(crate) fn merge(
 ) -> io::Result<()> {
     let answer = rolls::merge(first, second, &mut *buffer);
     print_written(out, answer, &*buffer)
+}
+
+// enter BUFFER CONTENTS TEXT: as a call that writes; a refused line's refusal has line and its number before it.
+pub(crate) fn enter(
+    out: &mut impl Write,
+    buffer: &mut [u8],
+    contents: &[u8],
+    text: &[u8],
+) -> io::Result<()> {
+    match records::enter(contents, text, &mut *buffer) {
+        Err(EntryRefusal::Line(line, refusal)) => {
+            write!(out, "line {line} ")?;
+            print_written(out, Err(refusal), &*buffer)
+        }
+        Err(EntryRefusal::Call(refusal)) => print_written(out, Err(refusal), &*buffer),
+        Ok(size) => print_written(out, Ok(size), &*buffer),
+    }
 }

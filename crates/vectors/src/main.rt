@@ -6,6 +6,7 @@
 #![tactic(auto)]
 
 mod columns;
+mod entries;
 mod lines;
 mod merges;
 mod pages;
@@ -15,11 +16,13 @@ mod shown;
 mod texts;
 
 use crate::columns::{body_row, cut_row, image_row, size_row};
+use crate::entries::{enter_row, whole_row};
 use crate::lines::{fields_row, line_row};
 use crate::merges::merge_row;
 use crate::pages::page_row;
 use crate::reserves::{NOT_NORMAL, list_row, place, reserve_row, write_row};
 use crate::scaled::{minus, plus};
+use crate::shown::ROOM;
 use crate::texts::{long_row, read_row, text_row};
 use std::io;
 use std::io::Write;
@@ -374,6 +377,58 @@ fn not_written(out: &mut impl Write) -> io::Result<()> {
     write_row(out, b"\x01\x02##\x05", 5, place(5, 1), b"100")
 }
 
+// Texts entered as records: listings, and texts of lines alone.
+fn entered(out: &mut impl Write) -> io::Result<()> {
+    // A listing; lines without a listing's first and last, with blanks, and without the last 0A.
+    enter_row(
+        out,
+        b"\x02\x03###\x06+##.##",
+        b"columns 2\n012 +24.39\n999 -99.99\nrecords 2\n",
+        ROOM,
+    )?;
+    enter_row(
+        out,
+        b"\x02\x0b########.##\x05-##.#",
+        b"16777216 0\n 16777216.5  - 1.5 \n16777217 +.5E1",
+        ROOM,
+    )?;
+    // No record: no line, and a listing's first and last.
+    enter_row(out, b"\x01\x02##", b"", ROOM)?;
+    enter_row(out, b"\x01\x02##", b"columns 1\nrecords 0\n", ROOM)?;
+    // A fraction and a sign that the image has no place for are dropped, as packing does.
+    enter_row(out, b"\x01\x02##", b"99.99\n-12\n", ROOM)
+}
+
+// Texts that are refused as records, each at its first bad line, and files that find no room.
+fn not_entered(out: &mut impl Write) -> io::Result<()> {
+    // Another count of columns, and of records; a listing's first line that is not the first.
+    enter_row(out, b"\x01\x02##", b"columns 2\n05\nrecords 1\n", ROOM)?;
+    enter_row(out, b"\x01\x02##", b"columns 1\n05\nrecords 2\n", ROOM)?;
+    enter_row(out, b"\x01\x02##", b"05\ncolumns 1\n", ROOM)?;
+    // An empty line, and a line of blanks.
+    enter_row(out, b"\x01\x02##", b"05\n\n12\n", ROOM)?;
+    enter_row(out, b"\x01\x02##", b"05\n  \n12\n", ROOM)?;
+    // Numbers that are not parted by blanks, and one whose e is outside its limits.
+    enter_row(out, b"\x02\x02##\x01#", b"12 1\n1-2\n", ROOM)?;
+    enter_row(out, b"\x02\x02##\x01#", b"12 1x\n", ROOM)?;
+    enter_row(out, b"\x02\x02##\x01#", b"12 99E99\n", ROOM)?;
+    // Numbers that exceed.
+    enter_row(out, b"\x02\x02##\x01#", b"12 1\n100 10\n", ROOM)?;
+    // No room; a byte that no image has comes before it, and before the lines.
+    enter_row(out, b"\x01\x02##", b"05\n12\n", 5)?;
+    enter_row(out, b"\x01\x01X", b"x\n", 0)
+}
+
+// Files that were cut short.
+fn cut_short(out: &mut impl Write) -> io::Result<()> {
+    // Two whole records; the second one torn.
+    whole_row(out, b"\x02\x03###\x01#\x01\x20\x10\x99\x90\x20")?;
+    whole_row(out, b"\x02\x03###\x01#\x01\x20\x10\x99\x90")?;
+    // Contents that is not whole; a bad half, which plays no part here.
+    whole_row(out, b"\x02\x03###\x01")?;
+    whole_row(out, b"\x01\x03###\x0a\x20\x01")
+}
+
 // Known values printed, both marked *.
 fn known_lines(out: &mut impl Write) -> io::Result<()> {
     line_row(out, b"#,###.#", b"34")?;
@@ -508,6 +563,9 @@ fn print_rows(out: &mut impl Write) -> io::Result<()> {
     reserved(out)?;
     written_reserved(out)?;
     not_written(out)?;
+    entered(out)?;
+    not_entered(out)?;
+    cut_short(out)?;
     known_lines(out)?;
     printed_lines(out)?;
     earlier_lines(out)?;
