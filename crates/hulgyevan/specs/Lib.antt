@@ -1,0 +1,10 @@
+pub mod Words
+pub mod Outcomes
+pub mod Bodies
+pub mod Texts
+pub mod Lines
+pub mod Files
+pub mod Roll
+pub mod KnownWords
+pub mod KnownCalls
+pub mod KnownLines
