@@ -1,4 +1,5 @@
 mod answers;
+mod draws;
 mod files;
 mod model;
 mod pairs;
@@ -7,15 +8,11 @@ mod texts;
 // Writes generated calls for the programs `calls`, one to a line: valid and damaged ones, so that every refusal comes up.
 // Arguments: the seed, the count.
 use answers::hexadecimal;
+use draws::bytes_of;
 use files::{Random, one_of};
 use model::{Element, Number};
 use pairs::ordered;
 use std::io::Write;
-
-/// Gives some bytes of a set.
-fn bytes_of(random: &mut Random, set: &[u8], most: usize) -> Vec<u8> {
-    (0..random.below(most + 1)).map(|_| one_of(random, set)).collect()
-}
 
 /// Gives an image, at times one that no contents can have.
 fn image(random: &mut Random) -> Vec<u8> {
@@ -116,27 +113,7 @@ fn text(random: &mut Random) -> Vec<u8> {
     if random.below(4) == 0 {
         return bytes_of(random, b" +-.0123456789E,e\t", 20);
     }
-    let mut text = bytes_of(random, b" ", 2);
-    text.extend(one_of(random, &[&b""[..], b"", b"", b"+", b"-", b"-", b"+ ", b"- ", b"-   "]));
-    let digits = if random.below(8) == 0 { 12 + random.below(4) } else { 1 + random.below(7) };
-    let set: &[u8] = if random.below(8) == 0 { b"0" } else { b"0123456789" };
-    let mut row: Vec<u8> = (0..digits).map(|_| one_of(random, set)).collect();
-    if random.below(2) == 0 {
-        row.insert(random.below(digits + 1), b'.');
-    }
-    text.extend(row);
-    if random.below(3) == 0 {
-        text.extend(one_of(random, &[&b"E"[..], b"E+", b"E-", b"E9", b"E99", b"E-99", b"E-100", b"E ", b"E- "]));
-        text.extend(bytes_of(random, b"0123456789", 2));
-    }
-    text.extend(bytes_of(random, b" ", 2));
-    if random.below(4) == 0 {
-        text.extend(bytes_of(random, b" torn.+-E5", 4));
-    }
-    if random.below(10) == 0 {
-        text.insert(random.below(text.len() + 1), b' ');
-    }
-    text
+    draws::number_text(random)
 }
 
 /// Gives a text with many numbers.
@@ -153,18 +130,7 @@ fn line(random: &mut Random) -> Vec<u8> {
     if random.below(60) == 0 {
         return vec![one_of(random, b"# "); 4_095 + random.below(4)];
     }
-    let mut line = Vec::new();
-    for _ in 0..random.below(5) {
-        line.extend(bytes_of(random, b" ab=,.", 3));
-        match random.below(8) {
-            0 => line.extend(files::bad_image(random)),
-            1 => line.extend(bytes_of(random, b"#####,.^+-", 9)),
-            2 | 3 => line.extend(one_of(random, &[&b"#,###"[..], b"#,###.#", b"-##,##", b"#,#,#", b"+#,###^^^^", b"#,,#", b"##^^^^^", b"#.#,#"])),
-            _ => line.extend(files::image(random)),
-        }
-    }
-    line.extend(bytes_of(random, b" ab", 2));
-    line
+    draws::line_of_fields(random)
 }
 
 /// Gives an element: a number, or a text, which at times runs past the lent bytes.
@@ -395,11 +361,8 @@ fn unpack(random: &mut Random) -> Vec<Vec<u8>> {
 
 /// Gives a text with a comma or a blank put in at times.
 fn field(random: &mut Random) -> Vec<u8> {
-    let mut field = text(random);
-    if random.below(2) == 0 {
-        field.insert(random.below(field.len() + 1), one_of(random, b", "));
-    }
-    field
+    let text = text(random);
+    draws::with_comma(random, text)
 }
 
 /// Gives a place in bytes: mostly inside them, at times far outside.

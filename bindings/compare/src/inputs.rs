@@ -1,6 +1,7 @@
 //! Calls of every kind from the seeded generator of `second/`: valid and damaged ones, short and long.
 
 use crate::call::{Call, Kind, EXPECTED};
+use crate::draws::{self, bytes_of};
 use crate::expected::word;
 use crate::files::{self, one_of, Random};
 use crate::{expected, model, pairs};
@@ -34,11 +35,6 @@ fn next_kind(random: &mut Random) -> Kind {
     ];
     let index = random.below(EXPECTED.len() + more.len());
     EXPECTED.get(index).map_or_else(|| more[index - EXPECTED.len()], |(kind, _)| *kind)
-}
-
-/// Gives some bytes of a set.
-fn bytes_of(random: &mut Random, set: &[u8], most: usize) -> Vec<u8> {
-    (0..random.below(most + 1)).map(|_| one_of(random, set)).collect()
 }
 
 /// Gives so many bytes in a pattern that begins anywhere.
@@ -246,27 +242,7 @@ fn text(random: &mut Random) -> Vec<u8> {
         )
         .to_vec();
     }
-    let mut text = bytes_of(random, b" ", 2);
-    text.extend(one_of(random, &[&b""[..], b"", b"", b"+", b"-", b"-", b"+ ", b"- ", b"-   "]));
-    let digits = if random.below(8) == 0 { 12 + random.below(4) } else { 1 + random.below(7) };
-    let set: &[u8] = if random.below(8) == 0 { b"0" } else { b"0123456789" };
-    let mut row: Vec<u8> = (0..digits).map(|_| one_of(random, set)).collect();
-    if random.below(2) == 0 {
-        row.insert(random.below(digits + 1), b'.');
-    }
-    text.extend(row);
-    if random.below(3) == 0 {
-        text.extend(one_of(random, &[&b"E"[..], b"E+", b"E-", b"E9", b"E99", b"E-99", b"E-100", b"E ", b"E- "]));
-        text.extend(bytes_of(random, b"0123456789", 2));
-    }
-    text.extend(bytes_of(random, b" ", 2));
-    if random.below(4) == 0 {
-        text.extend(bytes_of(random, b" torn.+-E5", 4));
-    }
-    if random.below(10) == 0 {
-        text.insert(random.below(text.len() + 1), b' ');
-    }
-    text
+    draws::number_text(random)
 }
 
 /// Gives a number with blanks around it, of some thousand bytes in all.
@@ -303,11 +279,8 @@ fn place_in(random: &mut Random, length: usize) -> u64 {
 
 /// Gives a text with a comma or a blank put in at times.
 fn field(random: &mut Random) -> Vec<u8> {
-    let mut field = text(random);
-    if random.below(2) == 0 {
-        field.insert(random.below(field.len() + 1), one_of(random, b", "));
-    }
-    field
+    let text = text(random);
+    draws::with_comma(random, text)
 }
 
 /// Writes alpha text: mostly of a number that can be truncated under the image.
@@ -342,20 +315,7 @@ fn line(random: &mut Random) -> Vec<u8> {
     if random.below(30) == 0 {
         return long_line(random);
     }
-    let mut line = Vec::new();
-    for _ in 0..random.below(5) {
-        line.extend(bytes_of(random, b" ab=,.", 3));
-        match random.below(8) {
-            0 => line.extend(files::bad_image(random)),
-            1 => line.extend(bytes_of(random, b"#####,.^+-", 9)),
-            2 | 3 => {
-                line.extend(one_of(random, &[&b"#,###"[..], b"#,###.#", b"-##,##", b"#,#,#", b"+#,###^^^^", b"#,,#", b"##^^^^^", b"#.#,#"]))
-            }
-            _ => line.extend(files::image(random)),
-        }
-    }
-    line.extend(bytes_of(random, b" ab", 2));
-    line
+    draws::line_of_fields(random)
 }
 
 /// Gives an element: a number, or a text, which at times is not inside the lent bytes.

@@ -18,6 +18,9 @@ mod made;
 mod memory;
 
 // Not this package's own: formatting it leaves them as they are.
+#[path = "../../../second/draws.rs"]
+#[rustfmt::skip]
+mod draws;
 #[path = "../../../second/files.rs"]
 #[rustfmt::skip]
 mod files;
