@@ -448,7 +448,7 @@ module _ {ims : List Image} {lines : Lines} {records : ℕ} {rest : List ℕ} (c
 -- Writing the bodies of lines.
 
 -- a list of no length
-nothing : {A : Type 0} (xs : List A) → length xs ≡ 0 → xs ≡ []
+pub nothing : {A : Type 0} (xs : List A) → length xs ≡ 0 → xs ≡ []
 nothing [] h = refl
 nothing (x ∷ xs) h = absurd (omega (arith, h))
 

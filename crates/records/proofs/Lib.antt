@@ -28,6 +28,7 @@ pub mod MeasureLaws
 pub mod DemandTheorem
 pub mod WholeReadTheorem
 pub mod FileLaws
+pub mod BadLineTheorem
 pub mod BodiesLaws
 pub mod RefusalLaws
 pub mod FileTheorem
