@@ -1,6 +1,6 @@
 -- Laws of answers one after the other. Assumes nothing.
-use Rattle.std.proofs.Common.{◌≡◌, ℕ, true, false, Result, Ok, Err, sym, refl, ap, ◌∙◌, ap₂, arith}
-use Rattle.std.specs.Result.{IsOk, IsErrAnd, is_ok}
+use Rattle.std.proofs.Common.{◌≡◌, ℕ, true, Result, Ok, Err, sym, refl, ap, ◌∙◌, ap₂, arith}
+use Rattle.std.specs.Result.{IsErrAnd, is_ok}
 use Rattle.decimal.specs.declared.refusal.Refusal.{Refusal}
 use Rattle.decimal.specs.Answer.{Answer, done, refused, ◌then◌, mapped, reason_number, meaning}
 
@@ -80,11 +80,6 @@ pub passed_on : {A : Type 0} (r : Result A Refusal) (e : Refusal) → IsErrAnd r
 passed_on (Ok a) e h = absurd h
 passed_on (Err y) e h = ap (λ (e : Refusal). refused (reason_number e.reason) e.place) h
 
--- What is done is no refusal.
-pub done_ok : {A : Type 0} (r : Result A Refusal) {a : A} → meaning r ≡ done a → IsOk r
-done_ok (Ok x) h = refl
-done_ok (Err e) h = never_done h
-
 -- Another result of an answer.
 
 -- that of one that is done
@@ -116,8 +111,3 @@ mapped_refused_back f (refused x y) {number} {place} h =
 pub ok_given : {A : Type 0} (r : Result A Refusal) → is_ok r ≡ true → (x : A) × (meaning r ≡ done x)
 ok_given (Ok x) h = (x, refl)
 ok_given (Err e) h = cc
-
--- it was not, with its refusal
-pub err_given : {A : Type 0} (r : Result A Refusal) → is_ok r ≡ false → (e : Refusal) × (meaning r ≡ refused (reason_number e.reason) e.place)
-err_given (Ok x) h = cc
-err_given (Err e) h = (e, refl)

@@ -1,6 +1,6 @@
 -- Laws of the digits of whole numbers, of their values and order, and of the zeros that stand before them.
 -- Assumes nothing.
-use Rattle.std.proofs.Common.{◌≡◌, ℕ, zero, suc, ◌+◌, ◌*◌, ◌/◌, ◌%◌, ◌^◌, ◌<◌, ◌≤◌, Bool, true, false, eqb, ltb, ◌⊎◌, List, [], ◌∷◌, ◌++◌, length, get_or, take, sym, refl, ap, ◌∙◌, inl, inr, ⊎_elim, mod-lt, mod-eq_of_lt, mul_assoc, mul_comm, suc-add, eq-or-lt_of_le, zero-add, div-one, arith, length-append, take_at, le-ltb, lt-ltb, eqb-true}
+use Rattle.std.proofs.Common.{◌≡◌, ℕ, zero, suc, ◌+◌, ◌*◌, ◌/◌, ◌%◌, ◌^◌, ◌<◌, ◌≤◌, Bool, true, false, eqb, ltb, ◌⊎◌, List, [], ◌∷◌, ◌++◌, length, get_or, take, sym, refl, ap, ◌∙◌, inl, inr, ⊎_elim, mod-lt, mod-eq_of_lt, mul_comm, suc-add, eq-or-lt_of_le, zero-add, div-one, arith, length-append, take_at, le-ltb, lt-ltb, eqb-true}
 use native.Mathlib.Nat.{suc_inj, zero-div, mod-one, mod-mod, div-eq_of_lt, div-div-eq-div-mul}
 use native.Mathlib.Numerals.{suc-eq-add-one}
 use native.Mathlib.Omega.{sub_cases}
@@ -8,7 +8,7 @@ use borrow.Author.Tests.{eqb-false}
 use lib.Arith.{digits_lt, digits_div, digits_mod as mod_low, mod-mul}
 use Rattle.decimal.specs.Answer.{pick}
 use Rattle.decimal.specs.Digits.{digits_of, value_of, zeros, leading_zeros, Digits, comes_before}
-use Rattle.decimal.proofs.PowerLaws.{pow10_pos, pow10_add, pow10_suc, pow10_mono, times_ten, times_power}
+use Rattle.decimal.proofs.PowerLaws.{pow10_pos, pow10_add, pow10_suc, times_ten, times_power}
 
 -- of two numbers the first is at most the second, or above it
 pub le_or_lt : (a b : ℕ) → (a ≤ b) ⊎ (b < a)
@@ -51,27 +51,6 @@ leading_top n k pos below = (leading_fills n k pos below).1
 -- the number with a ten for each zero before it has no zero before it
 pub leading_low : (n k : ℕ) → 0 < k → k < 10 ^ suc n → 10 ^ n ≤ k * 10 ^ leading_zeros (suc n) k
 leading_low n k pos below = (leading_fills n k pos below).0
-
--- the number with j tens put to it has j zeros less before it
-pub leading_shift : (n j k : ℕ) → 0 < k → k * 10 ^ j < 10 ^ suc n → leading_zeros (suc n) k ≡ j + leading_zeros (suc n) (k * 10 ^ j)
-leading_shift n j k pos below =
-    let z = leading_zeros (suc n) (k * 10 ^ j) in
-    let fills = leading_fills n (k * 10 ^ j) (omega (arith, times_power k j)) below in
-    let tens : k * 10 ^ j * 10 ^ z ≡ k * 10 ^ (j + z) = mul_assoc k (10 ^ j) (10 ^ z) ∙ ap (λ (p : ℕ). k * p) (sym (pow10_add j z)) in
-    leading_unique n k (j + z) (omega arith) (omega arith)
-
--- a number that fills more than i digits has fewer zeros before it than the others are
-pub leading_fewer : (n i k : ℕ) → 10 ^ i ≤ k → i < n → leading_zeros n k + i < n
-leading_fewer zero i k fills h = absurd (omega arith)
-leading_fewer (suc n) i k fills h =
-    ⊎_elim
-    (λ g. omega (arith, leading_none n k g))
-    (λ g.
-    ⊎_elim
-    (λ l. absurd (omega (arith, pow10_mono l)))
-    (λ l. omega (arith, leading_more n k g, leading_fewer n i k fills l))
-    (le_or_lt n i))
-    (le_or_lt (10 ^ n) k)
 
 -- n digits are n
 pub digits_length : (n k : ℕ) → length (digits_of n k) ≡ n
@@ -175,10 +154,6 @@ digits_of_value [] h = refl
 digits_of_value (d ∷ ds) h =
     let low = value_below ds h.1 in
     rw (digits_div d low, mod-eq_of_lt h.0, ← digits_mod (length ds) (d * 10 ^ length ds + value_of ds), mod_low d low, digits_of_value ds h.1)
-
--- two numbers that n digits hold are equal where their digits are
-pub digits_injective : (n j k : ℕ) → j < 10 ^ n → k < 10 ^ n → digits_of n j ≡ digits_of n k → j ≡ k
-digits_injective n j k p q e = sym (value_of_digits n j p) ∙ ap value_of e ∙ value_of_digits n k q
 
 same_test : (a b c d : ℕ) → (a < b → c < d) → (b ≤ a → d ≤ c) → ltb a b ≡ ltb c d
 same_test a b c d less more =

@@ -6,9 +6,7 @@ use native.Mathlib.Nat.{zero-div, div-eq_of_lt}
 use borrow.Author.Tests.{eqb-false}
 use Rattle.decimal.specs.declared.number.Number.{Number}
 use Rattle.decimal.specs.declared.image.Image.{Image}
-use Rattle.std.specs.Prelude.{Result, Ok, Err, OnOk}
-use Rattle.decimal.specs.declared.refusal.Refusal.{Refusal}
-use Rattle.decimal.specs.Answer.{Answer, done, refused, pick, checked_only, meaning}
+use Rattle.decimal.specs.Answer.{Answer, done, refused, pick, checked_only}
 use Rattle.decimal.specs.Digits.{precision}
 use Rattle.decimal.specs.Number.{exponent_limit, zero_number, magnitude, unit, shifted_number}
 use Rattle.decimal.specs.Image.{hashes}
@@ -40,11 +38,6 @@ checked_fits place im n h = go (truncation place im n) refl
         let wrong : checked_only (truncation place im n) ≡ refused x y = ap checked_only e in
         let z : ◌≡◌ {A = ℕ} 0 1 = cc in
         absurd (omega arith)
-
--- so it does where the code's answer is no refusal
-pub fits_on_ok : (r : Result (Unit {0}) Refusal) (place : ℕ) (im : Image) (n : Number) → meaning r ≡ checked_only (truncation place im n) → OnOk r (Fit im n)
-fits_on_ok (Ok u) place im n h = checked_fits place im n (sym h)
-fits_on_ok (Err e) place im n h = tt
 
 -- truncated numbers are equal where their parts are
 truncated_path : {s t : Truncated} → s.negative ≡ t.negative → s.whole ≡ t.whole → s.x ≡ t.x → s ≡ t

@@ -2,10 +2,11 @@
 pub mod BoolLaws
 pub mod AnswerLaws
 pub mod RefusalLaws
+pub mod Table
 pub mod PowerLaws
 pub mod DigitLaws
+pub mod SubtractionLaws
 pub mod PackedLaws
-pub mod Table
 pub mod ScaleLaws
 pub mod NumberLaws
 pub mod MagnitudeLaws
@@ -19,5 +20,7 @@ pub mod ImageLaws
 pub mod StepLaws
 pub mod TruncationLaws
 pub mod KeptLaws
+pub mod FittingLaws
 pub mod RemainderLaws
 pub mod RemainderTheorem
+pub mod CutLaws

@@ -1,14 +1,13 @@
 -- Laws of normal form, of the number's constructors and of magnitudes.
-use Rattle.std.proofs.Common.{◌≡◌, ℕ, ◌+◌, ◌-◌, ◌*◌, ◌^◌, ◌<◌, ◌≤◌, Bool, true, false, not, ◌&&◌, eqb, ltb, leb, ◌⊎◌, sym, refl, ap, ◌∙◌, inl, inr, ⊎_elim, mul_assoc, mul-lt-mul_of_pos_right, arith, ltb-true, le-ltb, lt-ltb, eq-eqb, ne_eqb, eqb-true, le-leb, leb-true}
+use Rattle.std.proofs.Common.{◌≡◌, ℕ, ◌+◌, ◌-◌, ◌*◌, ◌^◌, ◌<◌, ◌≤◌, Bool, true, false, not, ◌&&◌, eqb, ltb, leb, ◌⊎◌, sym, refl, ap, ◌∙◌, inl, inr, ⊎_elim, mul_assoc, mul-lt-mul_of_pos_right, mul-le-mul_right, arith, ltb-true, le-ltb, lt-ltb, eq-eqb, ne_eqb, eqb-true, le-leb, leb-true}
 use borrow.Author.Tests.{lt-leb, eqb-false, not-true}
 use Rattle.decimal.specs.declared.number.Number.{Number}
-use Rattle.decimal.specs.declared.number.Shifted.{Shifted}
 use Rattle.decimal.specs.Answer.{done, refused}
 use Rattle.decimal.specs.Digits.{precision, leading_zeros}
 use Rattle.decimal.proofs.BoolLaws.{and_true}
-use Rattle.decimal.proofs.PowerLaws.{pow10_pos, pow10_add, times_power}
-use Rattle.decimal.proofs.DigitLaws.{le_or_lt, leading_shift, leading_fewer, leading_at_most}
-use Rattle.decimal.specs.Number.{exponent_limit, zero_number, largest_number, normal, check_number, shifted_number, scaled_number, shift_past}
+use Rattle.decimal.proofs.PowerLaws.{pow10_pos, pow10_add, pow10_mono}
+use Rattle.decimal.proofs.DigitLaws.{le_or_lt, leading_unique}
+use Rattle.decimal.specs.Number.{exponent_limit, zero_number, largest_number, normal, check_number, shifted_number, scaled_number}
 
 -- Normal form.
 
@@ -166,80 +165,23 @@ module _ (place : ℕ) (negative : Bool) (whole up down : ℕ) where
 
 -- Shifting.
 
--- a whole number times ten to the power of zeros: it keeps to its digits, and fewer than left zeros stand before it yet
-pub record Shifting (whole left : ℕ) (s : Shifted) : Type 0 where
-  pub product : s.mantissa ≡ whole * 10 ^ s.zeros
-  pub positive : 0 < s.mantissa
-  pub high : s.mantissa < 10 ^ precision
-  pub counted : s.zeros + leading_zeros precision s.mantissa ≡ leading_zeros precision whole
-  pub few : leading_zeros precision s.mantissa < left
+-- a whole number from a power of ten to the next has the zeros before it that its digits leave
+module _ (whole log : ℕ) (high : whole < 10 ^ precision) (low : 10 ^ log ≤ whole) (next : whole < 10 * 10 ^ log) where
+  pub log_few : log ≤ precision - 1
+  log_few = ⊎_elim (λ (l : precision ≤ log). absurd (omega (arith, pow10_mono l, low, high))) (λ (l : log < precision). omega arith) (le_or_lt precision log)
 
--- a nonzero number that is not shifted yet
-pub shifting_starts : (whole left : ℕ) → 0 < whole → whole < 10 ^ precision → precision ≤ left → Shifting whole left (record { mantissa = whole; zeros = 0 })
-shifting_starts whole left positive high h =
-    record {
-      product = omega arith;
-      positive = positive;
-      high = high;
-      counted = omega arith;
-      few = omega (arith, leading_fewer precision 0 whole positive (omega arith));
-    }
+  -- so many
+  abbrev zeros : ℕ
+  zeros = precision - 1 - log
 
-module _ (j : ℕ) (s : Shifted) where
-  -- where fewer than j zeros stand before the number, it stays
-  pub shift_none : 10 ^ (precision - j) ≤ s.mantissa → shift_past j s ≡ s
-  unfolding shift_past
-  shift_none h = rw (le-ltb s.mantissa (10 ^ (precision - j)) h)
+  whole_power : 10 ^ log * 10 ^ zeros ≡ 10 ^ (precision - 1)
+  whole_power =
+      let sum : log + zeros ≡ precision - 1 = omega (arith, log_few) in
+      sym (pow10_add log zeros) ∙ ap (λ (q : ℕ). 10 ^ q) sum
 
-  -- else it is shifted by j digits
-  pub shift_some : s.mantissa < 10 ^ (precision - j) → shift_past j s ≡ record { mantissa = s.mantissa * 10 ^ j; zeros = s.zeros + j }
-  unfolding shift_past
-  shift_some h = rw (lt-ltb s.mantissa (10 ^ (precision - j)) h)
+  -- without them it has all digits
+  pub log_fits : whole * 10 ^ zeros < 10 ^ precision
+  log_fits = omega (arith, mul-lt-mul_of_pos_right next (pow10_pos zeros), mul_assoc 10 (10 ^ log) (10 ^ zeros), whole_power)
 
-  -- then it keeps to its digits
-  pub shift_fits : j ≤ precision → s.mantissa < 10 ^ (precision - j) → s.mantissa * 10 ^ j < 10 ^ precision
-  shift_fits size h =
-      let sum : precision - j + j ≡ precision = omega arith in
-      let parts : 10 ^ (precision - j) * 10 ^ j ≡ 10 ^ precision = sym (pow10_add (precision - j) j) ∙ ap (λ (q : ℕ). 10 ^ q) sum in
-      omega (arith, parts, mul-lt-mul_of_pos_right h (pow10_pos j))
-
-  -- a step past j zeros leaves half of the zeros that may stand before the number
-  pub shifting_step : (whole : ℕ) → 0 < j → j ≤ precision → Shifting whole (j + j) s → Shifting whole j (shift_past j s)
-  shifting_step whole some size g = ⊎_elim stays shifts (le_or_lt (10 ^ (precision - j)) s.mantissa)
-    where
-      stays : 10 ^ (precision - j) ≤ s.mantissa → Shifting whole j (shift_past j s)
-      stays h =
-          rw (shift_none h)
-          (record {
-            product = g.product;
-            positive = g.positive;
-            high = g.high;
-            counted = g.counted;
-            few = omega (arith, leading_fewer precision (precision - j) s.mantissa h (omega arith));
-          })
-
-      shifts : s.mantissa < 10 ^ (precision - j) → Shifting whole j (shift_past j s)
-      shifts h =
-          let fits = shift_fits size h in
-          let less = leading_shift (precision - 1) j s.mantissa g.positive fits in
-          rw (shift_some h)
-          (record {
-            product =
-                ap (λ (m : ℕ). m * 10 ^ j) g.product
-                ∙ mul_assoc whole (10 ^ s.zeros) (10 ^ j)
-                ∙ ap (λ (p : ℕ). whole * p) (sym (pow10_add s.zeros j));
-            positive = omega (arith, times_power s.mantissa j, g.positive);
-            high = fits;
-            counted = omega (arith, less, g.counted);
-            few = omega (arith, less, g.few);
-          })
-
--- it is shifted by at most all digits
-pub shifting_small : {whole left : ℕ} {s : Shifted} → Shifting whole left s → s.zeros ≤ precision
-shifting_small {whole = whole} g = omega (arith, g.counted, leading_at_most precision whole)
-
--- with no zero left the number is shifted by the zeros that stood before it
-pub shifting_ends : (whole : ℕ) (s : Shifted) → Shifting whole 1 s → (s.zeros ≡ leading_zeros precision whole) × (s.mantissa ≡ whole * 10 ^ leading_zeros precision whole)
-shifting_ends whole s g =
-    let zeros : s.zeros ≡ leading_zeros precision whole = omega (arith, g.counted, g.few) in
-    (zeros, g.product ∙ ap (λ (z : ℕ). whole * 10 ^ z) zeros)
+  pub log_zeros : leading_zeros precision whole ≡ zeros
+  log_zeros = leading_unique (precision - 1) whole zeros (omega (arith, mul-le-mul_right (10 ^ zeros) low, whole_power)) log_fits

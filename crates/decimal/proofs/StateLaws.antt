@@ -3,11 +3,11 @@ use Rattle.std.proofs.Common.{◌≡◌, ℕ, Bool, true, false, not, T, List, [
 use types.Run.{OneOf, miss}
 use mir.Val.{has_key}
 use denote.Enum.Declared as Declared
-use Rattle.decimal.specs.declared.image.State.{State as CodeState}
-use Rattle.decimal.specs.declared.image.State.TheVariants as code
+use Rattle.decimal.specs.declared.machine.State.{State as CodeState}
+use Rattle.decimal.specs.declared.machine.State.TheVariants as code
 use Rattle.decimal.specs.Image.{state_of, after_sign, after_hash, after_point, after_comma, after_up}
 use Rattle.decimal.specs.Image.{is_image, integer_hash, fraction_hash, is_exponential, counted}
-use Rattle.decimal.specs.contracts.image.State as proofs-state
+use Rattle.decimal.specs.contracts.machine.State as proofs-state
 
 -- the number of a state of the code
 abbrev pub tag : CodeState → ℕ

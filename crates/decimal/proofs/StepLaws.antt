@@ -1,14 +1,14 @@
 -- The laws of the reader's loop, which reads a run of # signs in one step: such a run leads to one state, and all of it counts there.
 -- Assumes nothing.
-use Rattle.std.proofs.Common.{◌≡◌, ℕ, suc, ◌+◌, ◌-◌, ◌*◌, ◌<◌, ◌≤◌, Bool, true, false, eqb, List, [], ◌∷◌, length, get_or, drop, sym, refl, ap, ◌∙◌, max, cond, ◌==◌, arith, length-drop}
+use Rattle.std.proofs.Common.{◌≡◌, ℕ, suc, ◌+◌, ◌-◌, ◌*◌, ◌<◌, ◌≤◌, Bool, true, false, eqb, List, [], ◌∷◌, length, get_or, drop, sym, refl, ap, ◌∙◌, max, cond, ◌==◌, nat_lt, arith, length-drop}
 use Rattle.std.proofs.Math.Nat.{mul-le-mul_left}
 use Rattle.std.specs.List.{prefix_len}
 use Rattle.std.proofs.lemmas.List.Sums.{prefix_len-le-length}
-use borrow.Author.Tests.{eqb-true}
+use borrow.Author.Tests.{eqb-true, eq-eqb, ne_eqb}
 use Rattle.decimal.specs.declared.image.Scan.{Scan}
 use Rattle.decimal.specs.Answer.{pick}
 use Rattle.decimal.specs.Image.{State, Start, Signed, Integer, Comma, Point, Fraction, Up, Stopped, state_of, hash_byte}
-use Rattle.decimal.specs.Image.{next_state, run_state, integer_hash, fraction_hash, counted, integers_from, fractions_from, leading_run, hashes_in, Scanned}
+use Rattle.decimal.specs.Image.{plus_byte, minus_byte, point_byte, comma_byte, up_byte, ups, after_sign, after_point, after_comma, after_up, next_state, run_state, integer_hash, fraction_hash, counted, integers_from, fractions_from, leading_run, hashes_in, Scanned}
 use Rattle.decimal.proofs.ImageLaws.{hash_once}
 
 -- the bytes of one value that bytes begin with, in the library's words
@@ -45,7 +45,7 @@ reading_ends [] r h = record { ended = r.ends; integers = omega (arith, r.intege
 reading_ends (b ∷ bs) r h = absurd (omega arith)
 
 -- a # behind a # leads nowhere else
-hash_again : (s : State) → next_state (next_state s hash_byte) hash_byte ≡ next_state s hash_byte
+pub hash_again : (s : State) → next_state (next_state s hash_byte) hash_byte ≡ next_state s hash_byte
 unfolding next_state
 hash_again Start = refl
 hash_again Signed = refl
@@ -132,3 +132,92 @@ reading_steps {bytes} {s} {t} {before} {behind} {k} {i} {f} (b ∷ bs) r h e l p
         let hash : t ≡ next_state s hash_byte = e ∙ ap (next_state s) (eqb-true b hash_byte same) in
         step (hashes_in bs) (omega arith) (passed_hashes p q (rw hash (hash_again s)) bs)
     go false other is = step 0 is (passed_none t i f bs)
+
+-- a state that counts nothing
+abbrev Quiet : State → Type 0
+Quiet t = (integer_hash t ≡ false) × (fraction_hash t ≡ false)
+
+quiet_pick : (test : Bool) (x y : State) → Quiet x → Quiet y → Quiet (pick test x y)
+quiet_pick true x y p q = p
+quiet_pick false x y p q = q
+
+quiet_sign : (s : State) → Quiet (after_sign s)
+quiet_sign Start = (refl, refl)
+quiet_sign Signed = (refl, refl)
+quiet_sign (Integer g) = (refl, refl)
+quiet_sign Comma = (refl, refl)
+quiet_sign (Point g) = (refl, refl)
+quiet_sign (Fraction g) = (refl, refl)
+quiet_sign (Up n) = (refl, refl)
+quiet_sign Stopped = (refl, refl)
+
+quiet_point : (s : State) → Quiet (after_point s)
+quiet_point Start = (refl, refl)
+quiet_point Signed = (refl, refl)
+quiet_point (Integer g) = (refl, refl)
+quiet_point Comma = (refl, refl)
+quiet_point (Point g) = (refl, refl)
+quiet_point (Fraction g) = (refl, refl)
+quiet_point (Up n) = (refl, refl)
+quiet_point Stopped = (refl, refl)
+
+quiet_comma : (s : State) → Quiet (after_comma s)
+quiet_comma Start = (refl, refl)
+quiet_comma Signed = (refl, refl)
+quiet_comma (Integer g) = (refl, refl)
+quiet_comma Comma = (refl, refl)
+quiet_comma (Point g) = (refl, refl)
+quiet_comma (Fraction g) = (refl, refl)
+quiet_comma (Up n) = (refl, refl)
+quiet_comma Stopped = (refl, refl)
+
+quiet_up : (s : State) → Quiet (after_up s)
+quiet_up Start = (refl, refl)
+quiet_up Signed = (refl, refl)
+quiet_up (Integer g) = quiet_pick g _ _ (refl, refl) (refl, refl)
+quiet_up Comma = (refl, refl)
+quiet_up (Point g) = (refl, refl)
+quiet_up (Fraction g) = quiet_pick g _ _ (refl, refl) (refl, refl)
+quiet_up (Up n) = quiet_pick (nat_lt n ups) _ _ (refl, refl) (refl, refl)
+quiet_up Stopped = (refl, refl)
+
+-- a byte that is no # counts nothing
+quiet_other : (s : State) (b : ℕ) → eqb b hash_byte ≡ false → Quiet (next_state s b)
+unfolding next_state
+quiet_other s b other =
+    quiet_pick (b == plus_byte) _ _ (quiet_sign s)
+    (quiet_pick (b == minus_byte) _ _ (quiet_sign s)
+    (rw other
+    (quiet_pick (b == point_byte) _ _ (quiet_point s)
+    (quiet_pick (b == comma_byte) _ _ (quiet_comma s) (quiet_pick (b == up_byte) _ _ (quiet_up s) (refl, refl))))))
+
+-- one byte further, where it is no #
+pub reading_other : {bytes : List ℕ} {s t : State} {before behind : ℕ} (rest : List ℕ)
+    → Reading bytes s before behind rest
+    → 0 < length rest
+    → t ≡ next_state s (get_or rest 0 0)
+    → (get_or rest 0 0 ≡ hash_byte → ⊥)
+    → Reading bytes t before behind (drop 1 rest)
+reading_other [] r h e other = absurd (omega arith)
+reading_other {bytes} {s} {t} {before} {behind} (b ∷ bs) r h e other =
+    let quiet = quiet_other s b (ne_eqb b hash_byte other) in
+    let none : counted (integer_hash t) 0 ≡ 0 = ap (λ (x : State). counted (integer_hash x) 0) e ∙ ap (λ (x : Bool). counted x 0) quiet.0 in
+    let nothing : counted (fraction_hash t) 0 ≡ 0 = ap (λ (x : State). counted (fraction_hash x) 0) e ∙ ap (λ (x : Bool). counted x 0) quiet.1 in
+    let alone : 1 ≡ max (hashes_in (b ∷ bs)) 1 = rw (ne_eqb b hash_byte other) refl in
+    let stepped = reading_steps {k = 1} {i = 0} {f = 0} (b ∷ bs) r h e alone (sym none) (sym nothing) in
+    let read = stepped.reading in
+    record { few = omega (arith, read.few); ends = read.ends; integers = omega (arith, read.integers); fractions = omega (arith, read.fractions) }
+
+-- and a run of # signs further
+pub reading_run : {bytes : List ℕ} {s t : State} {before behind more i f : ℕ} (rest : List ℕ)
+    → Reading bytes s before behind rest
+    → 0 < length rest
+    → t ≡ next_state s (get_or rest 0 0)
+    → get_or rest 0 0 ≡ hash_byte
+    → more ≡ hashes_in (drop 1 rest)
+    → i ≡ counted (integer_hash t) 0
+    → f ≡ counted (fraction_hash t) 0
+    → Stepped bytes t before behind (more + 1) i f rest
+reading_run [] r h e same run p q = absurd (omega arith)
+reading_run {more = more} (b ∷ bs) r h e same run p q =
+    reading_steps {k = more + 1} (b ∷ bs) r h e (rw (eq-eqb b hash_byte same) (omega (arith, run))) p q

@@ -7,38 +7,62 @@ use Rattle.decimal.specs.declared.digits.Taken.{Taken}
 abbrev pub precision : ℕ
 precision = 13
 
--- ten to the power of e where a machine word of 64 bits holds that, which is so below 20; else 0
-unfoldable pub power_of_ten : ℕ → ℕ
-power_of_ten e = pick (nat_lt e 20) (10 ^ e) 0
-
 -- the last n decimal digits of k, the first digit first
 unfoldable pub digits_of : ℕ → ℕ → List ℕ
 digits_of zero k = []
 digits_of (suc n) k = k / 10 ^ n % 10 ∷ digits_of n k
 
--- how many subtractions may be made for a digit: document 02's nine
+-- how many subtractions of a power of ten may be made for a digit: document 02's nine
 abbrev pub subtraction_limit : ℕ
 subtraction_limit = 9
 
--- one subtraction of a multiple of a power of ten from what is left: the multiple is taken off and added to the digit where it is no larger
--- than what is left, else both stay; either way one subtraction more was made
+-- the multiples of a power of ten that are subtracted
+pub data Multiple : ℕ → Type 0 where
+  one_power : Multiple 1
+  two_powers : Multiple 2
+  four_powers : Multiple 4
+  eight_powers : Multiple 8
+
+-- subtractions of multiples of a power from a whole number, one after the other: how many were made, how many powers they took off it, and
+-- what they left of it; a multiple that is larger than what is left is not taken off, and is a subtraction made too
+pub data Subtractions (power whole : ℕ) : ℕ → ℕ → ℕ → Type 0 where
+  no_subtraction : Subtractions power whole 0 0 whole
+  taken_off :
+      {count powers rest times after : ℕ}
+      → Subtractions power whole count powers rest
+      → Multiple times
+      → after + times * power ≡ rest
+      → Subtractions power whole (count + 1) (powers + times) after
+  not_taken_off :
+      {count powers rest times : ℕ}
+      → Subtractions power whole count powers rest
+      → Multiple times
+      → rest < times * power
+      → Subtractions power whole (count + 1) powers rest
+
+-- a digit and what is left are held as one number: the digit is its last half byte, and what is left stands before that
+abbrev pub digit_in : ℕ → ℕ
+digit_in held = held % 16
+
+abbrev pub rest_in : ℕ → ℕ
+rest_in held = held / 16
+
+-- one subtraction of a multiple of a power from what is left: where the multiple is no larger, it is taken off and added to the digit, else
+-- both stay; either way one subtraction more was made
 pub record Subtracts (power times : ℕ) (before after : Taken) : Type 0 where
   pub counted : after.subtractions ≡ before.subtractions + 1
-  pub result : ((after.rest + times * power ≡ before.rest) × (after.digit ≡ before.digit + times))
-      ⊎ ((before.rest < times * power) × (after.rest ≡ before.rest) × (after.digit ≡ before.digit))
+  pub result :
+      ((rest_in after.held + times * power ≡ rest_in before.held) × (digit_in after.held ≡ digit_in before.held + times))
+      ⊎ ((rest_in before.held < times * power) × (after.held ≡ before.held))
 
--- what subtractions of multiples of a power, one after the other, make of a whole number: at first no digit, all of it left and no subtraction
-pub data Subtractions (power whole : ℕ) : Taken → Type 0 where
-  no_subtraction : Subtractions power whole (record { digit = 0; rest = whole; subtractions = 0 })
-  one_more : {times : ℕ} {before after : Taken} → Subtractions power whole before → Subtracts power times before after → Subtractions power whole after
-
--- the first digit taken off a whole number (document 02, (iv)): by subtractions, and the count is of all of them; the digit times the power,
--- and the rest, are the whole number; the rest is below the power; and the subtractions are at most nine
+-- the first digit taken off a whole number (document 02, (iv)): by subtractions, of which at most nine were made; the digit is how many powers
+-- they took off, at most nine too; the digit times the power, and the rest, are the whole number; the rest is below the power
 pub record TakesDigit (power whole : ℕ) (taken : Taken) : Type 0 where
-  pub made : Subtractions power whole taken
-  pub sum : taken.digit * power + taken.rest ≡ whole
-  pub below : taken.rest < power
+  pub made : Subtractions power whole taken.subtractions (digit_in taken.held) (rest_in taken.held)
   pub few : taken.subtractions ≤ subtraction_limit
+  pub sum : digit_in taken.held * power + rest_in taken.held ≡ whole
+  pub below : rest_in taken.held < power
+  pub small : digit_in taken.held ≤ subtraction_limit
 
 -- the whole number that digits stand for
 unfoldable pub value_of : List ℕ → ℕ

@@ -4,8 +4,8 @@ use Rattle.decimal.specs.declared.image.Sign.{Sign}
 use Rattle.decimal.specs.declared.image.Sign.TheVariants.{Unsigned, Plus, Minus}
 use Rattle.decimal.specs.declared.image.Image.{Image}
 use Rattle.decimal.specs.declared.image.Scan.{Scan}
-use Rattle.decimal.specs.declared.image.State.{State as CodeState}
-use Rattle.decimal.specs.declared.image.State.TheVariants as code
+use Rattle.decimal.specs.declared.machine.State.{State as CodeState}
+use Rattle.decimal.specs.declared.machine.State.TheVariants as code
 use Rattle.decimal.specs.Answer.{Answer, done, refused, pick}
 use Rattle.decimal.specs.Digits.{precision}
 

@@ -5,6 +5,8 @@ pub mod Constructors
 pub mod Comparison
 pub mod Image
 pub mod Truncation
+pub mod Cuts
+pub mod CutMeaning
 pub mod Remainder
 pub mod Known
 pub mod KnownNumbers

@@ -1,7 +1,6 @@
 -- Document 01, Numbers: normal form, the meaning of a number, and its constructors.
-use Rattle.std.specs.Prelude.{ℕ, ◌+◌, ◌-◌, ◌*◌, ◌^◌, Bool, true, false, not, ◌&&◌, ℤ, pos, negsuc, ◌+ℤ◌, ◌-ℤ◌, ◌==◌, nat_le, nat_lt}
+use Rattle.std.specs.Prelude.{ℕ, ◌+◌, ◌-◌, ◌*◌, ◌^◌, Bool, false, not, ◌&&◌, ℤ, pos, negsuc, ◌+ℤ◌, ◌-ℤ◌, ◌==◌, nat_le, nat_lt}
 use Rattle.decimal.specs.declared.number.Number.{Number}
-use Rattle.decimal.specs.declared.number.Shifted.{Shifted}
 use Rattle.decimal.specs.Answer.{Answer, done, refused, pick}
 use Rattle.decimal.specs.Digits.{precision, leading_zeros}
 
@@ -85,14 +84,3 @@ scaled_number place negative whole up down =
 -- the number of a whole count of wheel steps: 3 for 10^13 and above, also where a normal number has that magnitude, as for 10^13 itself
 abbrev pub steps_number : ℕ → Answer Number
 steps_number steps = scaled_number 0 false steps 0 0
-
--- What the code's helpers find.
-
--- a number shifted by count digits where the test holds
-abbrev pub shift_where : Bool → ℕ → Shifted → Shifted
-shift_where true count s = record { mantissa = s.mantissa * 10 ^ count; zeros = s.zeros + count }
-shift_where false count s = s
-
--- a number shifted by count digits where at least count zeros stand before it
-unfoldable pub shift_past : ℕ → Shifted → Shifted
-shift_past count s = shift_where (nat_lt s.mantissa (10 ^ (precision - count))) count s

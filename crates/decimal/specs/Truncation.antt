@@ -4,9 +4,8 @@ use Rattle.decimal.specs.declared.number.Number.{Number}
 use Rattle.decimal.specs.declared.image.Sign.{Sign}
 use Rattle.decimal.specs.declared.image.Sign.TheVariants.{Unsigned, Plus, Minus}
 use Rattle.decimal.specs.declared.image.Image.{Image}
-use Rattle.decimal.specs.declared.truncation.Truncation.{Truncation}
 use Rattle.decimal.specs.Answer.{Answer, done, refused, ◌then◌, pick}
-use Rattle.decimal.specs.Digits.{precision, digits_of, packed_of}
+use Rattle.decimal.specs.Digits.{precision}
 use Rattle.decimal.specs.Number.{exponent_limit, normal, magnitude, unit, check_number, scaled_number}
 use Rattle.decimal.specs.Image.{hashes, check_image}
 
@@ -90,10 +89,6 @@ number_of place im t = scaled_number place t.negative t.whole t.x (exponent_limi
 -- a number's truncation under an image, as a number
 unfoldable pub truncated_number : ℕ → Image → Number → Answer Number
 truncated_number place im n = truncation place im n then number_of place im
-
--- the code's truncation of a truncated number: the image's n digits are the last n of its half bytes
-unfoldable pub truncation_of : Truncated → Truncation
-truncation_of t = record { negative = t.negative; halves = packed_of (digits_of precision t.whole); x = t.x }
 
 -- What the code's helpers ask and find.
 

@@ -19,7 +19,6 @@ pub fn compare(first: Number, second: Number) -> Result<Ordering, Refusal>
 }
 
 // The order of two numbers in normal form: the signs decide where they differ, else the magnitudes.
-// The form stands in the contract and not in a type, which would be made here and taken apart in the next function.
 #[tactic(auto, using(crate::proofs::ComparisonLaws::minus_first, crate::proofs::ComparisonLaws::minus_second, crate::proofs::ComparisonLaws::minus_both, crate::proofs::ComparisonLaws::minus_none))]
 fn value_order(first: Number, second: Number) -> Ordering
     requires { (normal first ≡ true) × (normal second ≡ true) }

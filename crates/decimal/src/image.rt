@@ -1,30 +1,17 @@
-// Images and the state machine that reads them (document 01: Images). The scanner of print lines uses the same machine.
-ghost use Rattle.std.specs.Prelude.{◌≡◌, ◌≤◌, OnOk};
-ghost use Rattle.decimal.specs.Answer.{meaning};
+// Images, and reading them (document 01: Images).
+ghost use Rattle.std.specs.Prelude.{◌≡◌, ◌<◌, ◌≤◌};
+ghost use Rattle.decimal.specs.Answer.{meaning, mapped};
 ghost use Rattle.decimal.specs.Digits.{precision};
 ghost use Rattle.decimal.specs.Image.{
-  state_of,
-  after_sign,
-  after_hash,
-  after_point,
-  after_comma,
-  after_up,
-  next_state,
-  is_image,
-  integer_hash,
-  fraction_hash,
-  is_exponential,
-  counted,
   leading_run,
   sign_of,
   hashes,
-  check_digits,
   check_image,
   Scanned,
   read_image,
 };
 
-use crate::digits::PRECISION;
+use crate::machine::{State, check_digits, hash_counts, is_exponential, is_image, next_state};
 use crate::refusal::{Reason, Refusal};
 
 // The sign that an image begins with, if any.
@@ -45,37 +32,12 @@ pub struct Image {
     pub exponential: bool,
 }
 
-// What was read of a field, from its first byte.
-#[derive(Clone, Copy, Debug, PartialEq, Eq, Hash)]
-pub enum State {
-    // Nothing.
-    Start,
-    // A sign.
-    Signed,
-    // # signs with no comma and no point, a # last.
-    Integer,
-    // As Integer, with a comma among the # signs.
-    Grouped,
-    // A comma last, which a # must follow.
-    Comma,
-    // A point last, which a # must follow.
-    Point,
-    // As Point, with a comma before the point.
-    GroupedPoint,
-    // # signs behind a point, no comma before it.
-    Fraction,
-    // As Fraction, with a comma before the point.
-    GroupedFraction,
-    // One 5E byte behind the # signs.
-    FirstUp,
-    // Two of them.
-    SecondUp,
-    // Three of them.
-    ThirdUp,
-    // The four 5E bytes of an exponential image.
-    Exponential,
-    // No field begins with the bytes read.
-    Stopped,
+// An image that a number can be cut to: it has a #, and no more than PRECISION of them.
+#[derive(Clone, Copy)]
+pub struct CheckedImage {
+    pub image: Image,
+    ghost some: { 0 < hashes image },
+    ghost few: { hashes image ≤ precision },
 }
 
 // What was read of bytes: the last state, and the counts of # before and behind the point.
@@ -86,131 +48,17 @@ struct Scan {
     fraction: usize,
 }
 
-// The state after one more byte.
-#[tactic(auto, unfolding(crate::specs::Image::next_state))]
-pub fn next_state(state: State, byte: u8) -> State
-    ensures { state_of result ≡ next_state (state_of state) byte }
-{
-    match byte {
-        b'+' | b'-' => after_sign(state),
-        b'#' => after_hash(state),
-        b'.' => after_point(state),
-        b',' => after_comma(state),
-        b'^' => after_up(state),
-        _ => State::Stopped,
+impl Sign {
+    // The sign that a byte is; Unsigned for any other byte.
+    pub fn of_byte(byte: u8) -> Sign
+        ensures { result ≡ sign_of byte }
+    {
+        match byte {
+            b'+' => Sign::Plus,
+            b'-' => Sign::Minus,
+            _ => Sign::Unsigned,
+        }
     }
-}
-
-// The state after a sign, which only begins a field.
-fn after_sign(state: State) -> State
-    ensures { state_of result ≡ after_sign (state_of state) }
-{
-    match state {
-        State::Start => State::Signed,
-        _ => State::Stopped,
-    }
-}
-
-// The state after a #.
-fn after_hash(state: State) -> State
-    ensures { state_of result ≡ after_hash (state_of state) }
-{
-    match state {
-        State::Start | State::Signed | State::Integer => State::Integer,
-        State::Grouped | State::Comma => State::Grouped,
-        State::Point | State::Fraction => State::Fraction,
-        State::GroupedPoint | State::GroupedFraction => State::GroupedFraction,
-        _ => State::Stopped,
-    }
-}
-
-// The state after a point, of which there is at most one.
-fn after_point(state: State) -> State
-    ensures { state_of result ≡ after_point (state_of state) }
-{
-    match state {
-        State::Start | State::Signed | State::Integer => State::Point,
-        State::Grouped => State::GroupedPoint,
-        _ => State::Stopped,
-    }
-}
-
-// The state after a comma, which stands behind a # before the point.
-fn after_comma(state: State) -> State
-    ensures { state_of result ≡ after_comma (state_of state) }
-{
-    match state {
-        State::Integer | State::Grouped => State::Comma,
-        _ => State::Stopped,
-    }
-}
-
-// The state after a 5E byte; a field with a comma can't be exponential.
-fn after_up(state: State) -> State
-    ensures { state_of result ≡ after_up (state_of state) }
-{
-    match state {
-        State::Integer | State::Fraction => State::FirstUp,
-        State::FirstUp => State::SecondUp,
-        State::SecondUp => State::ThirdUp,
-        State::ThirdUp => State::Exponential,
-        _ => State::Stopped,
-    }
-}
-
-// Whether the bytes that led to a state are an image.
-fn is_image(state: State) -> bool
-    ensures { result ≡ is_image (state_of state) }
-{
-    matches!(state, State::Integer | State::Fraction | State::Exponential)
-}
-
-// What a state says of the last byte: 1 and 0 for a # before the point, 0 and 1 for a # behind it, else 0 and 0.
-pub fn hash_counts(state: State) -> (usize, usize)
-    ensures integer { result.0 ≡ counted (integer_hash (state_of state)) 0 }
-    ensures fraction { result.1 ≡ counted (fraction_hash (state_of state)) 0 }
-{
-    let before = matches!(state, State::Integer | State::Grouped);
-    let behind = matches!(state, State::Fraction | State::GroupedFraction);
-    (usize::from(before), usize::from(behind))
-}
-
-// Whether the last byte is a 5E; for the state of an image, whether the image is exponential.
-pub fn is_exponential(state: State) -> bool
-    ensures { result ≡ is_exponential (state_of state) }
-{
-    matches!(
-        state,
-        State::FirstUp | State::SecondUp | State::ThirdUp | State::Exponential
-    )
-}
-
-// The sign that a byte is; Unsigned for any other byte.
-pub fn sign_of(byte: u8) -> Sign
-    ensures { result ≡ sign_of byte }
-{
-    match byte {
-        b'+' => Sign::Plus,
-        b'-' => Sign::Minus,
-        _ => Sign::Unsigned,
-    }
-}
-
-// Whether an image can have so many # signs: refused with 2 where they are more than PRECISION.
-#[tactic(auto, unfolding(crate::specs::Image::check_digits))]
-pub fn check_digits(count: usize, place: usize) -> Result<(), Refusal>
-    ensures few { OnOk result (count ≤ precision) }
-    ensures answer { meaning result ≡ check_digits place count }
-{
-    // By name, for the edit fourteen_digits.
-    let many = PRECISION < count;
-    if many {
-        return Err(Refusal {
-            reason: Reason::TooManyDigits,
-            place,
-        });
-    }
-    Ok(())
 }
 
 impl Image {
@@ -221,10 +69,10 @@ impl Image {
         usize::from(self.integer) + usize::from(self.fraction)
     }
 
-    // The image itself, refused with 1 where it has no #, with 2 where it has more than PRECISION.
-    #[tactic(auto, unfolding(crate::specs::Image::check_image, crate::specs::Image::check_digits))]
-    pub fn checked(self, place: usize) -> Result<Image, Refusal>
-        ensures { meaning result ≡ check_image place self }
+    // The image, checked; refused with 1 where it has no #, with 2 where it has more than PRECISION.
+    #[tactic(auto, unfolding(crate::specs::Image::check_image, crate::specs::Image::check_digits, crate::specs::Answer::mapped))]
+    pub fn checked(self, place: usize) -> Result<CheckedImage, Refusal>
+        ensures { mapped (λ checked. checked.image) (meaning result) ≡ check_image place self }
     {
         let count = self.hashes();
         if count == 0 {
@@ -234,7 +82,7 @@ impl Image {
             });
         }
         check_digits(count, place)?;
-        Ok(self)
+        Ok(CheckedImage { image: self })
     }
 }
 
@@ -246,7 +94,7 @@ pub fn leading_run(bytes: &[u8], byte: u8) -> usize
 }
 
 // What the machine has read of bytes: its last state, and the counts of # before and behind the point.
-// A # behind a # leads to no other state, so a run of # signs is read in one step: byte by byte, in a for, it takes twice the time.
+// A # behind a # leads to no other state, so a run of # signs is read in one step.
 fn scan_bytes(bytes: &[u8]) -> Scan
     ensures { Scanned bytes.now result }
 {
@@ -254,13 +102,16 @@ fn scan_bytes(bytes: &[u8]) -> Scan
     let mut integer: usize = 0;
     let mut fraction: usize = 0;
     let mut rest = bytes;
-    while let [first, ..] = rest {
+    while let [first, behind @ ..] = rest {
         state = next_state(state, *first);
-        let step = leading_run(rest, b'#').max(1);
-        let (before, behind) = hash_counts(state);
-        integer += step * before;
-        fraction += step * behind;
-        rest = &rest[step..];
+        rest = behind;
+        if *first == b'#' {
+            let more = leading_run(behind, b'#');
+            let (before, after) = hash_counts(state);
+            integer += (more + 1) * before;
+            fraction += (more + 1) * after;
+            rest = &behind[more..];
+        }
     }
     Scan {
         state,
@@ -283,7 +134,7 @@ pub fn read_image(bytes: &[u8], place: usize) -> Result<Image, Refusal>
     }
     check_digits(scan.integer + scan.fraction, place)?;
     Ok(Image {
-        sign: sign_of(bytes[0]),
+        sign: Sign::of_byte(bytes[0]),
         integer: scan.integer as u8,
         fraction: scan.fraction as u8,
         exponential: is_exponential(scan.state),

@@ -2,8 +2,10 @@
 #![tactic(auto)]
 
 mod comparison;
+mod cut;
 mod digits;
 mod image;
+pub mod machine;
 mod number;
 mod powers;
 mod refusal;
@@ -11,13 +13,10 @@ mod remainder;
 mod truncation;
 
 pub use comparison::compare;
+pub use cut::{Cut, Fitting};
 pub use digits::PRECISION;
-pub use image::{
-    Image, Sign, State, check_digits, hash_counts, is_exponential, leading_run, next_state,
-    read_image, sign_of,
-};
+pub use image::{CheckedImage, Image, Sign, leading_run, read_image};
 pub use number::{EXPONENT_LIMIT, Number, SCALE};
-pub use powers::power_of_ten;
 pub use refusal::{Reason, Refusal};
 pub use remainder::{Remainder, remainder_of};
-pub use truncation::{Truncation, fit, fit_packed, truncate, truncated};
+pub use truncation::{cut_number, truncated};

@@ -2,7 +2,7 @@
 ghost use Rattle.std.specs.Prelude.{◌≡◌, ◌*◌, ◌^◌, ◌<◌, ◌≤◌, true, OnOk};
 ghost use Rattle.decimal.specs.Digits.{precision, leading_zeros};
 ghost use Rattle.decimal.specs.Answer.{meaning};
-ghost use Rattle.decimal.specs.Number.{zero_number, largest_number, normal, check_number, new_number, parts_number, scaled_number, shift_past, steps_number};
+ghost use Rattle.decimal.specs.Number.{zero_number, largest_number, normal, check_number, new_number, parts_number, scaled_number, steps_number};
 
 use crate::digits::PRECISION;
 use crate::powers::power_of_ten;
@@ -69,14 +69,14 @@ impl Number {
         exponent: EXPONENT_TOP,
     };
 
-    // The constant ZERO, by a function, since a constant has no contract.
+    // The constant ZERO, by a function that has its contract: a constant has none, and a proof above can cite this one.
     pub fn zero() -> Number
         ensures { result ≡ zero_number }
     {
         Number::ZERO
     }
 
-    // The constant LARGEST, by a function, as ZERO.
+    // The constant LARGEST, by a function that has its contract, as zero for ZERO.
     pub fn largest() -> Number
         ensures { result ≡ largest_number }
     {
@@ -101,7 +101,6 @@ impl Number {
         ensures answer { meaning result ≡ check_number place self }
         ensures form { OnOk result (normal self ≡ true) }
     {
-        // By name, for the edit any_number_passed.
         let normal = self.is_normal();
         if normal {
             Ok(self)
@@ -178,7 +177,6 @@ impl Number {
         let shifted = shift_left(whole);
         let high = SCALE + usize::from(up);
         let low = usize::from(down) + shifted.zeros;
-        // By name, for the edit exponent_above_limit.
         let outside = high < low || EXPONENT_TOP < high - low;
         if outside {
             return Err(Refusal {
@@ -208,30 +206,15 @@ struct Shifted {
     zeros: usize,
 }
 
-// Multiplies a number by 10^count if, written with PRECISION digits, it begins with at least count zeros; else leaves it.
-#[tactic(auto, using(crate::proofs::PowerLaws::power_small, crate::proofs::NumberLaws::shift_fits), unfolding(crate::specs::Number::shift_past))]
-fn shift_past(number: Shifted, count: usize) -> Shifted
-    requires { (count ≤ precision) × (number.zeros ≤ precision) }
-    ensures { result ≡ shift_past count number }
-{
-    if power_of_ten(PRECISION - count) <= number.mantissa {
-        number
-    } else {
-        Shifted {
-            mantissa: number.mantissa * power_of_ten(count),
-            zeros: number.zeros + count,
-        }
-    }
-}
-
 // A nonzero whole number below 10^PRECISION without the zeros before it, written with PRECISION digits, and how many they were.
+#[tactic(auto, using(crate::proofs::NumberLaws::log_few, crate::proofs::NumberLaws::log_zeros, crate::proofs::NumberLaws::log_fits))]
 fn shift_left(whole: u64) -> Shifted
     requires { (0 < whole) × (whole < 10 ^ precision) }
     ensures { (result.zeros ≡ leading_zeros precision whole) × (result.mantissa ≡ whole * 10 ^ leading_zeros precision whole) }
 {
-    let number = Shifted {
-        mantissa: whole,
-        zeros: 0,
-    };
-    shift_past(shift_past(shift_past(shift_past(number, 8), 4), 2), 1)
+    let zeros = PRECISION - 1 - whole.ilog10() as usize;
+    Shifted {
+        mantissa: whole * power_of_ten(zeros),
+        zeros,
+    }
 }

@@ -1,12 +1,13 @@
 // What truncation cuts off a number (document 02, (ii)).
 ghost use Rattle.std.specs.Prelude.{◌≡◌, ◌%◌, ◌<◌};
 ghost use Rattle.decimal.specs.Answer.{meaning};
-ghost use Rattle.decimal.specs.Remainder.{remainder, zero_remainder};
+ghost use Rattle.decimal.specs.Remainder.{remainder, cut_off, zero_remainder};
+ghost use Rattle.decimal.specs.CutMeaning.{truncated_of};
 
+use crate::cut::Fitting;
 use crate::image::Image;
 use crate::number::{Number, SCALE};
 use crate::refusal::Refusal;
-use crate::truncation::{Fitting, fit};
 
 // The exact remainder of a number under an image: truncated magnitude plus r * 10^power is the magnitude. The field whole holds document
 // 02's r, which is below 10^PRECISION; the field power holds power + SCALE, where power is e - (PRECISION - 1).
@@ -35,7 +36,6 @@ impl Default for Remainder {
 }
 
 // The part of a mantissa below a unit: what is left of it without its whole part in that unit.
-// By itself, for the edit remainder_of_rounding, which is this line.
 fn part_below(mantissa: u64, unit: u64) -> u64
     requires { 0 < unit }
     ensures { result ≡ mantissa % unit }
@@ -43,16 +43,23 @@ fn part_below(mantissa: u64, unit: u64) -> u64
     mantissa % unit
 }
 
-// What truncation under an image cuts off a number: r and its power, which is 0 for the number zero alone; refused as fit is.
-#[tactic(auto, using(crate::proofs::PowerLaws::pow10_pos, crate::proofs::KeptLaws::checked_refused, crate::proofs::RemainderLaws::power_zero, crate::proofs::RemainderLaws::power_some, crate::proofs::RemainderLaws::cut_last, crate::proofs::RemainderLaws::remainder_fit, crate::proofs::RemainderLaws::remainder_refused), unfolding(crate::specs::Remainder::cut_off))]
+impl Fitting {
+    // What truncation cuts off the number: r and its power, which is 0 for the number zero alone.
+    #[tactic(auto, using(crate::proofs::PowerLaws::pow10_pos, crate::proofs::RemainderLaws::power_zero, crate::proofs::RemainderLaws::power_some, crate::proofs::RemainderLaws::cut_last), unfolding(crate::specs::Remainder::cut_off))]
+    pub fn remainder(&self) -> Remainder
+        ensures { result ≡ cut_off self.now.image self.now.number (truncated_of self.now) }
+    {
+        let number = self.number;
+        let whole = part_below(number.mantissa, self.unit());
+        let is_zero = number.mantissa == 0;
+        let power = if is_zero { SCALE } else { number.exponent };
+        Remainder { whole, power }
+    }
+}
+
+// What truncation under an image cuts off a number; refused as cut_number is.
 pub fn remainder_of(image: Image, number: Number, place: usize) -> Result<Remainder, Refusal>
     ensures { meaning result ≡ remainder place image number }
 {
-    fit(image, number, place)?;
-    let fitting = Fitting { image, number };
-    let whole = part_below(number.mantissa, fitting.unit());
-    // By name, for the edit power_of_truncation.
-    let is_zero = number.mantissa == 0;
-    let power = if is_zero { SCALE } else { number.exponent };
-    Ok(Remainder { whole, power })
+    Ok(image.fitting(number, place)?.remainder())
 }

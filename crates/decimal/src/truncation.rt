@@ -1,6 +1,7 @@
 // Truncation of a number under an image (document 01: Images, second paragraph).
-ghost use Rattle.std.specs.Prelude.{◌≡◌, ◌+◌, ◌-◌, ◌*◌, ◌/◌, ◌^◌, ◌<◌, ◌≤◌, true, OnOk};
-ghost use Rattle.decimal.specs.Answer.{meaning, mapped, checked_only};
+ghost use Rattle.std.specs.Prelude.{◌≡◌, ◌+◌, ◌-◌, ◌*◌, ◌/◌, ◌^◌, ◌<◌, ◌≤◌, ℕ, true, IfOk};
+ghost use Rattle.decimal.specs.Answer.{done, meaning, mapped, checked_only};
+ghost use Rattle.decimal.specs.CutMeaning.{said_by_cut, truncated_of};
 ghost use Rattle.decimal.specs.Digits.{precision, digits_of, packed_of};
 ghost use Rattle.decimal.specs.Number.{exponent_limit, normal};
 ghost use Rattle.decimal.specs.Truncation.{
@@ -12,37 +13,19 @@ ghost use Rattle.decimal.specs.Truncation.{
   kept_number,
   dropped_count,
   whole_of,
-  Fit,
   limited,
   truncation,
   packed_truncation,
-  truncation_of,
   truncated_number,
+  number_of,
 };
 
+use crate::cut::{Cut, Fitting};
 use crate::digits::{PRECISION, packed_digits};
-use crate::image::{Image, Sign};
+use crate::image::{CheckedImage, Image, Sign};
 use crate::number::{EXPONENT_LIMIT, EXPONENT_TOP, Number};
 use crate::powers::power_of_ten;
 use crate::refusal::{Reason, Refusal};
-
-// A number truncated under an image. The field x holds x + EXPONENT_LIMIT, where x is document 01's stored exponent; in fixed point x is 0.
-// The image's n digits are the last n half bytes of halves, the first digit highest.
-#[derive(Clone, Copy, Debug, PartialEq, Eq, Hash)]
-pub struct Truncation {
-    pub negative: bool,
-    pub halves: u64,
-    pub x: usize,
-}
-
-impl Truncation {
-    // The truncation of zero.
-    pub const ZERO: Truncation = Truncation {
-        negative: false,
-        halves: 0,
-        x: EXPONENT_LIMIT,
-    };
-}
 
 // The count of digits before the point of a nonzero number; a number below 1 has none.
 fn integer_digits(exponent: usize) -> usize
@@ -51,8 +34,6 @@ fn integer_digits(exponent: usize) -> usize
 {
     (exponent + 1).saturating_sub(EXPONENT_LIMIT)
 }
-
-// Normal form stands in the contracts of the next three: a type for it would be made and taken apart again in each of their callers.
 
 // Whether a number exceeds a fixed-point image.
 #[tactic(auto, using(crate::proofs::NumberLaws::normal_range, crate::proofs::NumberLaws::normal_is_zero, crate::proofs::TruncationLaws::exceeds_zero, crate::proofs::TruncationLaws::exceeds_range))]
@@ -99,34 +80,45 @@ fn limits(image: Image, number: Number, place: usize) -> Result<(), Refusal>
     }
 }
 
-// Whether a number can be truncated under an image; refused with 1 or 2 for the image, 3 for the number, 4 or 5 for the two.
-#[tactic(auto, using(crate::proofs::TruncationLaws::truncation_image_refused, crate::proofs::TruncationLaws::truncation_number_refused), unfolding(crate::specs::Answer::checked_only))]
-pub fn fit(image: Image, number: Number, place: usize) -> Result<(), Refusal>
-    ensures fits { OnOk result (Fit image number) }
-    ensures answer { meaning result ≡ checked_only (truncation place image number) }
-{
-    image.checked(place)?;
-    number.checked(place)?;
-    limits(image, number, place)
+impl CheckedImage {
+    // The number with the image that it fits; refused with 3, then with 5 by an exponential image, with 4 by another.
+    pub fn fitting(self, number: Number, place: usize) -> Result<Fitting, Refusal>
+        ensures answer { mapped truncated_of (meaning result) ≡ truncation place self.image number }
+        ensures parts { IfOk result (λ fitting. (fitting.image ≡ self.image) × (fitting.number ≡ number)) }
+    {
+        number.checked(place)?;
+        limits(self.image, number, place)?;
+        Ok(Fitting {
+            image: self.image,
+            number,
+        })
+    }
+
+    // The same of a number that is to be packed: an unsigned exponential image also refuses a negative x, with 5.
+    pub fn fitting_packed(self, number: Number, place: usize) -> Result<Fitting, Refusal>
+        ensures answer { mapped truncated_of (meaning result) ≡ packed_truncation place self.image number }
+        ensures parts { IfOk result (λ fitting. (fitting.image ≡ self.image) × (fitting.number ≡ number)) }
+    {
+        let fitting = self.fitting(number, place)?;
+        let below = fitting.stored_exponent() < EXPONENT_LIMIT;
+        if below && !is_signed(self.image.sign) {
+            return Err(Refusal {
+                reason: Reason::ExponentOutside,
+                place,
+            });
+        }
+        Ok(fitting)
+    }
 }
 
-// Whether a number can be packed under an image: as fit, and an unsigned exponential image refuses a negative x with 5.
-#[tactic(auto, using(crate::proofs::TruncationLaws::packed_refused, crate::proofs::TruncationLaws::packed_signed, crate::proofs::TruncationLaws::packed_negative, crate::proofs::TruncationLaws::packed_within), unfolding(crate::specs::Answer::checked_only))]
-pub fn fit_packed(image: Image, number: Number, place: usize) -> Result<(), Refusal>
-    ensures fits { OnOk result (Fit image number) }
-    ensures answer { meaning result ≡ checked_only (packed_truncation place image number) }
-{
-    fit(image, number, place)?;
-    let fitting = Fitting { image, number };
-    // By name, for the edit negative_x_packed.
-    let below = fitting.stored_exponent() < EXPONENT_LIMIT;
-    if below && !is_signed(image.sign) {
-        return Err(Refusal {
-            reason: Reason::ExponentOutside,
-            place,
-        });
+impl Image {
+    // The number with the image that it fits; refused with 1 or 2 for the image, 3 for the number, 4 or 5 for the two.
+    pub(crate) fn fitting(self, number: Number, place: usize) -> Result<Fitting, Refusal>
+        ensures answer { mapped truncated_of (meaning result) ≡ truncation place self number }
+        ensures parts { IfOk result (λ fitting. (fitting.image ≡ self) × (fitting.number ≡ number)) }
+    {
+        self.checked(place)?.fitting(number, place)
     }
-    Ok(())
 }
 
 // Whether an image has a sign.
@@ -134,15 +126,6 @@ fn is_signed(sign: Sign) -> bool
     ensures { result ≡ is_signed sign }
 {
     sign != Sign::Unsigned
-}
-
-// An image and a number that fits it: the image can truncate it. It is made behind fit, in two lines: a constructor would give back the
-// parts that it takes, and say so by two equations.
-#[derive(Clone, Copy)]
-pub(crate) struct Fitting {
-    pub(crate) image: Image,
-    pub(crate) number: Number,
-    ghost fits: { Fit image number },
 }
 
 impl Fitting {
@@ -178,7 +161,6 @@ impl Fitting {
     fn keeps_minus(&self) -> bool
         ensures { result ≡ (kept_number self.now.image self.now.number).negative }
     {
-        // By name, for the edit minus_zero_kept.
         let keeps_digit = 0 < self.kept_count();
         is_signed(self.image.sign) && keeps_digit && self.number.negative
     }
@@ -191,7 +173,7 @@ impl Fitting {
     }
 
     // The worth of the last digit kept, counted in the mantissa's last digit.
-    #[tactic(auto, using(crate::proofs::PowerLaws::power_left, crate::proofs::KeptLaws::kept_size))]
+    #[tactic(auto, using(crate::proofs::KeptLaws::kept_size))]
     pub(crate) fn unit(&self) -> u64
         ensures { result ≡ 10 ^ dropped_count self.now.image self.now.number }
     {
@@ -206,24 +188,46 @@ impl Fitting {
         let unit = self.unit();
         whole_part(self.number.mantissa, unit) * unit
     }
+
+    // The number cut to the image.
+    #[inline(always)]
+    pub fn cut(&self) -> Cut
+        ensures cut { said_by_cut result ≡ truncated_of self.now }
+        ensures image { result.image ≡ self.now.image }
+    {
+        Cut {
+            image: self.image,
+            negative: self.keeps_minus(),
+            halves: self.kept_halves(),
+            x: self.stored_exponent(),
+        }
+    }
+
+    // The number's truncation as a number.
+    fn truncated(&self) -> Number
+        ensures { (place : ℕ) → number_of place self.now.image (truncated_of self.now) ≡ done result }
+    {
+        if self.kept_count() == 0 {
+            Number::ZERO
+        } else {
+            Number {
+                negative: self.keeps_minus(),
+                mantissa: self.cut_mantissa(),
+                exponent: self.number.exponent,
+            }
+        }
+    }
 }
 
-// A number truncated under an image: the sign and the digits kept and the stored exponent; refused as fit is.
-#[tactic(auto, using(crate::proofs::TruncationLaws::fit_truncation, crate::proofs::KeptLaws::checked_refused, crate::proofs::KeptLaws::kept_sign), unfolding(crate::specs::Truncation::truncation_of, crate::specs::Truncation::truncated_to, crate::specs::Answer::mapped))]
-pub fn truncate(image: Image, number: Number, place: usize) -> Result<Truncation, Refusal>
-    ensures { meaning result ≡ mapped truncation_of (truncation place image number) }
+// A number cut to an image; refused with 1 or 2 for the image, 3 for the number, 4 or 5 for the two.
+pub fn cut_number(image: Image, number: Number, place: usize) -> Result<Cut, Refusal>
+    ensures cut { mapped said_by_cut (meaning result) ≡ truncation place image number }
+    ensures image { IfOk result (λ cut. cut.image ≡ image) }
 {
-    fit(image, number, place)?;
-    let fitting = Fitting { image, number };
-    Ok(Truncation {
-        negative: fitting.keeps_minus(),
-        halves: fitting.kept_halves(),
-        x: fitting.stored_exponent(),
-    })
+    Ok(image.fitting(number, place)?.cut())
 }
 
 // The whole part of a mantissa in units of a power of ten: the digits before the unit's, the rest cut off and not rounded.
-// By itself, for the edit rounding, which is this line.
 fn whole_part(mantissa: u64, unit: u64) -> u64
     requires { (mantissa < 10 ^ precision) × (0 < unit) × (unit ≤ 10 ^ precision) }
     ensures { result ≡ mantissa / unit }
@@ -231,20 +235,9 @@ fn whole_part(mantissa: u64, unit: u64) -> u64
     mantissa / unit
 }
 
-// A number's truncation under an image as a number; refused as fit is.
+// A number's truncation under an image as a number; refused as cut_number is.
 pub fn truncated(image: Image, number: Number, place: usize) -> Result<Number, Refusal>
     ensures { meaning result ≡ truncated_number place image number }
 {
-    fit(image, number, place)?;
-    let fitting = Fitting { image, number };
-    let truncated = if fitting.kept_count() == 0 {
-        Number::ZERO
-    } else {
-        Number {
-            negative: fitting.keeps_minus(),
-            mantissa: fitting.cut_mantissa(),
-            exponent: number.exponent,
-        }
-    };
-    Ok(truncated)
+    Ok(image.fitting(number, place)?.truncated())
 }

@@ -1,7 +1,7 @@
 -- `Fitting::stored_exponent` meets its contract: an exponent that fits is not below the image's. Assumes nothing.
 use Rattle.std.proofs.Common.{◌≡◌, true, arith, rules}
 use Rattle.decimal.proofs.TruncationLaws.{fit_exponential}
-use Rattle.decimal.proofs.truncation.Fitting.stored_exponent.Goals as goal
+use Rattle.decimal.proofs.cut.Fitting.stored_exponent.Goals as goal
 
 pub overflow_sub-result : goal.overflow_sub-result
 overflow_sub-result c =

@@ -4,7 +4,7 @@ use Rattle.decimal.specs.Digits.{precision}
 use Rattle.decimal.specs.Truncation.{dropped_count}
 use Rattle.decimal.proofs.PowerLaws.{pow10_pos, pow10_mono}
 use Rattle.decimal.proofs.NumberLaws.{normal_high}
-use Rattle.decimal.proofs.truncation.Fitting.cut_mantissa.Goals as goal
+use Rattle.decimal.proofs.cut.Fitting.cut_mantissa.Goals as goal
 
 pub whole_part-requires : goal.whole_part-requires
 whole_part-requires c =

@@ -7,7 +7,7 @@ use Rattle.decimal.proofs.DigitLaws.{digits_first, digits_padded}
 use Rattle.decimal.proofs.PackedLaws.{packed_zeros}
 use Rattle.decimal.proofs.NumberLaws.{normal_high}
 use Rattle.decimal.proofs.KeptLaws.{kept_size, kept_whole}
-use Rattle.decimal.proofs.truncation.Fitting.kept_halves.Goals as goal
+use Rattle.decimal.proofs.cut.Fitting.kept_halves.Goals as goal
 
 -- of w digits the first n are kept, and d dropped
 kept : (w d n m : ℕ) → w ≡ n + d → m < 10 ^ w → packed_of (take n (digits_of w m)) ≡ packed_of (digits_of w (m / 10 ^ d))
