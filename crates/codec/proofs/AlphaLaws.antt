@@ -7,28 +7,25 @@ use native.Mathlib.Omega.{arith}
 use native.Mathlib.Nat.{mod-eq_of_lt, div-one}
 use lib.Dec.{ltb}
 use lib.ListN.{length, get_or, set, length-append, length-set}
-use borrow.Author.Tests.{lt-ltb, le-ltb}
 use Rattle.decimal.specs.declared.image.Sign.{Sign}
 use Rattle.decimal.specs.declared.image.Sign.TheVariants.{Unsigned, Plus, Minus}
 use Rattle.decimal.specs.declared.image.Image.{Image}
 use Rattle.decimal.specs.declared.number.Number.{Number}
-use Rattle.decimal.specs.declared.truncation.Truncation.{Truncation}
-use Rattle.decimal.specs.Answer.{Answer, done, refused, ◌then◌, pick, mapped}
-use Rattle.decimal.specs.Digits.{precision, digits_of, halves_in}
+use Rattle.decimal.specs.Answer.{Answer, done, refused, ◌then◌, pick}
+use Rattle.decimal.specs.Digits.{precision, digits_of, value_of, halves_in}
 use Rattle.decimal.specs.Number.{exponent_limit}
 use Rattle.decimal.specs.Image.{hash_byte, plus_byte, minus_byte, point_byte, sign_bytes, times, fraction_bytes, up_bytes, image_bytes, read_image}
-use Rattle.decimal.specs.Truncation.{Truncated, truncation, truncation_of}
+use Rattle.decimal.specs.Truncation.{Truncated, truncation}
 use Rattle.decimal.proofs.DigitLaws.{digits_length}
 use Rattle.decimal.proofs.PackedLaws.{halves_length, half_at, shifted_halves}
 use Rattle.decimal.proofs.ImageLaws.{times_length, read_done}
-use Rattle.decimal.proofs.TruncationLaws.{truncation_fit, truncation_done}
-use Rattle.decimal.proofs.AnswerLaws.{never, one_answer, mapped_back}
+use Rattle.decimal.proofs.AnswerLaws.{never, one_answer}
 use Rattle.codec.specs.Answers.{stored_in, within, sized}
-use Rattle.codec.proofs.FitLaws.{truncation_held, truncation_held_by}
+use Rattle.decimal.specs.Cuts.{cut_of, IsCut}
 use Rattle.codec.proofs.BufferLaws.{front_more, front_all}
 use Rattle.codec.specs.Columns.{sign_count}
 use Rattle.codec.proofs.ContentsLaws.{sign_few}
-use Rattle.codec.specs.Packing.{exponent_size, held_by, Held}
+use Rattle.codec.specs.Packing.{exponent_size}
 use Rattle.codec.specs.Alpha.{zero_byte, exponent_byte, digit_bytes, sign_shown, sign_text, fraction_text, exponent_text, alpha_text, alpha_under, alpha_of, writing_alpha_under, writing_alpha, zero_at, fraction_length, exponent_length, tail_length, text_length}
 
 -- Lengths.
@@ -251,21 +248,21 @@ exponent_alike false t = refl
 
 -- the text is its parts, one behind the other
 pub text_filled :
-    {im : Image} {r : Truncation} {signs digits point exponent : List ℕ} {n m : ℕ}
-    → Held im r
-    → signs ≡ sign_text im.sign r.negative
+    {im : Image} {negative : Bool} {halves x : ℕ} {signs digits point exponent : List ℕ} {n m : ℕ}
+    → IsCut im negative halves x
+    → signs ≡ sign_text im.sign negative
     → n ≡ im.integer
-    → digits ≡ digit_bytes (halves_in n (r.halves / 2 ^ (4 * im.fraction)))
+    → digits ≡ digit_bytes (halves_in n (halves / 2 ^ (4 * im.fraction)))
     → m ≡ fraction_length im.fraction
-    → point ≡ fraction_text (m - 1) (held_by r).whole
-    → exponent ≡ exponent_text im.exponential (zero_at r.x)
-    → signs ++ (digits ++ (point ++ exponent)) ≡ alpha_text im (held_by r)
+    → point ≡ fraction_text (m - 1) (value_of (halves_in precision halves))
+    → exponent ≡ exponent_text im.exponential (zero_at x)
+    → signs ++ (digits ++ (point ++ exponent)) ≡ alpha_text im (cut_of negative halves x)
 unfolding alpha_text
-text_filled {im} {r} {n = n} {m} held signed many digited long pointed raised =
-    let whole : ℕ = (held_by r).whole in
+text_filled {im} {negative} {halves} {x} {n = n} {m} is signed many digited long pointed raised =
+    let whole : ℕ = value_of (halves_in precision halves) in
     let shown =
-    ap₂ (λ (k h : ℕ). halves_in k (h / 2 ^ (4 * im.fraction))) many held.digits ∙ shifted_halves precision im.integer im.fraction whole held.size in
-    rw (signed, digited, shown, pointed, fraction_less im.fraction long, raised, exponent_alike im.exponential (held_by r)) refl
+    ap₂ (λ (k h : ℕ). halves_in k (h / 2 ^ (4 * im.fraction))) many is.digits ∙ shifted_halves precision im.integer im.fraction whole is.size in
+    rw (signed, digited, shown, pointed, fraction_less im.fraction long, raised, exponent_alike im.exponential (cut_of negative halves x)) refl
 
 -- What a call that writes answers, and the buffer behind it.
 
@@ -288,25 +285,6 @@ module _ (a : Answer (List ℕ)) (buffer : List ℕ) where
 
 -- What a number's text is, and when it is refused.
 
--- the truncation that the code has found
-pub record Found (im : Image) (n : Number) (r : Truncation) : Type 0 where
-  pub to : Truncated
-  pub truncated : truncation 0 im n ≡ done to
-  pub same : held_by r ≡ to
-  pub is_held : Held im r
-
--- a number that is not refused is held
-pub truncation_found : (im : Image) (n : Number) {r : Truncation} → done r ≡ mapped truncation_of (truncation 0 im n) → Found im n r
-truncation_found im n {r} e =
-    let t = mapped_back truncation_of (truncation 0 im n) e in
-    let fit = truncation_fit 0 im n t.1 in
-    record {
-      to = t.0;
-      truncated = t.1;
-      same = truncation_held_by im n fit e ∙ sym (truncation_done 0 im n t.1);
-      is_held = truncation_held im n fit e;
-    }
-
 module _ (im : Image) (n : Number) where
   -- under an image that is read 3, 4 and 5 are the number's
   pub under_refused : {number place : ℕ} → truncation 0 im n ≡ refused number place → alpha_under im n ≡ refused number place
@@ -317,10 +295,6 @@ module _ (im : Image) (n : Number) where
   pub under_done : {t : Truncated} → truncation 0 im n ≡ done t → alpha_under im n ≡ done (alpha_text im t)
   unfolding alpha_under alpha_text ◌then◌
   under_done h = rw h
-
-  -- and it is that of the truncation that the code holds
-  pub under_held : (r : Truncation) → Found im n r → alpha_under im n ≡ done (alpha_text im (held_by r))
-  under_held r found = under_done found.truncated ∙ ap (λ (t : Truncated). done (alpha_text im t)) (sym found.same)
 
   -- Published: the text has the length that the image says.
   pub alpha_under_length : {text : List ℕ} → alpha_under im n ≡ done text → length text ≡ text_length im
@@ -336,15 +310,10 @@ module _ (im : Image) (n : Number) where
     unfolding writing_alpha_under ◌then◌
     writing_under_refused h = rw h
 
-    -- a text that is too long is refused with 6
-    pub writing_under_long : {text : List ℕ} → alpha_under im n ≡ done text → room < length text → writing_alpha_under im n room ≡ refused 6 0
-    unfolding writing_alpha_under ◌then◌ within
-    writing_under_long {text} h long = rw (h, lt-ltb room (length text) long)
-
-    -- any other is written
-    pub writing_under_done : {text : List ℕ} → alpha_under im n ≡ done text → length text ≤ room → writing_alpha_under im n room ≡ done text
-    unfolding writing_alpha_under ◌then◌ within
-    writing_under_done {text} h fits = rw (h, le-ltb room (length text) fits)
+    -- any other is refused with 6, or written
+    pub writing_under_made : {t : Truncated} → truncation 0 im n ≡ done t → writing_alpha_under im n room ≡ within room (alpha_text im t)
+    unfolding writing_alpha_under ◌then◌
+    writing_under_made h = rw (under_done h)
 
 module _ (bytes : List ℕ) (n : Number) where
   -- 1 and 2 come first

@@ -17,14 +17,12 @@ use Rattle.decimal.specs.declared.number.Number.{Number}
 use Rattle.decimal.specs.Answer.{Answer, done, refused, ◌then◌, pick, checked_only}
 use Rattle.decimal.specs.Truncation.{Truncated, truncated_to, packed_truncation, Fit}
 use Rattle.decimal.proofs.KeptLaws.{checked_refused}
-use Rattle.decimal.proofs.AnswerLaws.{one_answer, done_same, then_done, then_last}
+use Rattle.decimal.proofs.AnswerLaws.{one_answer, done_same, then_done}
 use Rattle.codec.specs.Answers.{within, written}
-use Rattle.codec.specs.Columns.{column_size, body_size}
-use Rattle.codec.specs.Contents.{read_alone, check_images}
+use Rattle.codec.specs.Columns.{column_size, body_size, AllChecked}
+use Rattle.codec.specs.Contents.{read_alone}
 use Rattle.codec.specs.Packing.AllPack.{none, one}
-use Rattle.codec.specs.Packing.{column_bytes, pack_columns, pack_list, body_of, packing_under, pack_under, packing, AllPack, PacksUnder}
-use Rattle.codec.proofs.ContentsLaws.{Sound}
-use Rattle.codec.proofs.UnderLaws.{pack_under_checked, checks_checked}
+use Rattle.codec.specs.Packing.{column_bytes, pack_columns, pack_list, body_of, packing_under, packing, AllPack, PacksUnder}
 use borrow.Rule.Slice.PartMut.{put_mid}
 use Rattle.codec.proofs.BufferLaws.{part_written, written_length}
 use Rattle.codec.proofs.HalfLaws.{column_length_lem}
@@ -134,11 +132,17 @@ module _ (column : ℕ) (im : Image) (n : Number) (ims : List Image) (ns : List 
   unfolding pack_columns ◌then◌
   check_refused h = rw (checked_refused (packed_truncation column im n) h)
 
--- a list of which no column is refused packs
-pub checked_packs : (ims : List Image) (ns : List Number) → length ns ≡ length ims → checked_only (pack_columns 0 ims ns) ≡ done tt → AllPack ims ns
-checked_packs ims ns same h = columns_pack 0 ims ns same (checked_done (pack_columns 0 ims ns) h).1
-
 -- The loop that checks them, over the columns that are left.
+
+-- before the first
+pub checking_starts :
+    {ims left_ims : List Image} {ns left_ns : List Number} {k : ℕ}
+    → AllChecked ims
+    → left_ims ≡ ims
+    → left_ns ≡ ns
+    → k ≡ 0
+    → AllChecked left_ims × (checked_only (pack_columns 0 ims ns) ≡ checked_only (pack_columns k left_ims left_ns))
+checking_starts all images numbers start = rw (images, numbers, start) (all, refl)
 
 module _ {k column : ℕ} {ims later_ims : List Image} {ns later_ns : List Number} {im : Image} {n : Number}
     (images : ims ≡ im ∷ later_ims) (numbers : ns ≡ n ∷ later_ns) (same : column ≡ k) where
@@ -252,10 +256,6 @@ writing_ends {all} {ims} {ns} {start} {body} w end =
     ∙ append-nil (take start body)
     ∙ take_all start body (omega (arith, w.room, ap body_size left.0))
 
--- the size of the columns up to a place, one more among them
-pub columns_place : (ims : List Image) (k : ℕ) (d : Image) {start size : ℕ} → k < length ims → start ≡ body_size (take k ims) → size ≡ column_size (get_or ims k d) → start + size ≡ body_size (take (k + 1) ims)
-columns_place ims k d h before sized = omega (arith, size_next ims k d h, ap (λ (i : ℕ). body_size (take i ims)) (add-one k))
-
 -- The packing call.
 
 -- refused as the contents is
@@ -267,21 +267,15 @@ packing_contents contents ns room h = rw h
 -- Whether a list packs under images.
 
 module _ (ims : List Image) (ns : List Number) where
-  -- refused as they are
-  pub list_images : {x y : ℕ} → check_images ims ≡ refused x y → checked_only (pack_under ims ns) ≡ refused x y
-  unfolding pack_under checked_only ◌then◌
-  list_images h = rw h
+  -- 10 for a list of another length
+  pub list_other : (length ns ≡ length ims → ⊥) → checked_only (pack_list ims ns) ≡ refused 10 0
+  unfolding pack_list checked_only
+  list_other h = rw (ne_eqb (length ns) (length ims) h)
 
-  module _ (good : check_images ims ≡ done tt) where
-    -- 10 for a list of another length
-    pub list_other : (length ns ≡ length ims → ⊥) → checked_only (pack_under ims ns) ≡ refused 10 0
-    unfolding pack_under pack_list checked_only ◌then◌
-    list_other h = rw (good, ne_eqb (length ns) (length ims) h)
-
-    -- a list of the right length is refused as its columns are
-    pub list_each : length ns ≡ length ims → checked_only (pack_under ims ns) ≡ checked_only (pack_columns 0 ims ns)
-    unfolding pack_under pack_list ◌then◌
-    list_each same = rw (good, eq-eqb (length ns) (length ims) same)
+  -- a list of the right length is refused as its columns are
+  pub list_each : length ns ≡ length ims → checked_only (pack_list ims ns) ≡ checked_only (pack_columns 0 ims ns)
+  unfolding pack_list
+  list_each same = rw (eq-eqb (length ns) (length ims) same)
 
 -- Published: a list is packed exactly where it packs, and its body has the length that the images say.
 
@@ -298,6 +292,10 @@ packed_count ims ns {body} h = go (eqb (length ns) (length ims)) refl h
     go : (b : Bool) → eqb (length ns) (length ims) ≡ b → pick b (pack_columns 0 ims ns) (refused 10 0) ≡ done body → length ns ≡ length ims
     go true e k = eqb-true (length ns) (length ims) e
     go false e k = let z : ◌≡◌ {A = ℕ} 0 1 = cc in absurd (omega arith)
+
+-- so its columns are packed
+pub packed_columns : (ims : List Image) (ns : List Number) {body : List ℕ} → pack_list ims ns ≡ done body → pack_columns 0 ims ns ≡ done body
+packed_columns ims ns h = sym (list_same ims ns (packed_count ims ns h)) ∙ h
 
 -- a list that packs is packed to the bytes of its truncations
 pub packs_packed : {ims : List Image} {ns : List Number} → AllPack ims ns → pack_list ims ns ≡ done (bytes_of ims ns)
@@ -322,33 +320,24 @@ packed_bytes ims ns h = let e = packs_packed (packed_only ims ns h) in cc
 pub packed_length : (ims : List Image) (ns : List Number) {body : List ℕ} → pack_list ims ns ≡ done body → length body ≡ body_size ims
 packed_length ims ns h = ap length (packed_bytes ims ns h) ∙ bytes_length ims ns (packed_count ims ns h)
 
--- a list that packs under images: they are not refused, and each of its numbers packs under its own
+-- a list that packs under images: each of its numbers packs under its own
 pub record Packable (ims : List Image) (ns : List Number) : Type 0 where
-  pub sound : Sound ims
   pub packs : AllPack ims ns
-  pub body : pack_under ims ns ≡ done (bytes_of ims ns)
+  pub body : pack_list ims ns ≡ done (bytes_of ims ns)
   pub size : length (bytes_of ims ns) ≡ body_size ims
 
 module _ (ims : List Image) (ns : List Number) where
   -- which is where the list is not refused
-  pub packable : checked_only (pack_under ims ns) ≡ done tt → Packable ims ns
-  unfolding pack_under
+  pub packable : checked_only (pack_list ims ns) ≡ done tt → Packable ims ns
   packable h =
-      let d = checked_done (pack_under ims ns) h in
-      let both = then_last (check_images ims) (pack_list ims ns) d.1 in
-      let packs = packed_only ims ns both.1 in
-      record {
-        sound = checks_checked ims both.0;
-        packs = packs;
-        body = pack_under_checked ims ns both.0 ∙ packs_packed packs;
-        size = bytes_length ims ns (packs_length packs);
-      }
+      let packs = packed_only ims ns (checked_done (pack_list ims ns) h).1 in
+      record { packs = packs; body = packs_packed packs; size = bytes_length ims ns (packs_length packs) }
 
   module _ (room : ℕ) where
     -- else it is refused whatever the room
-    pub list_refused : {x y : ℕ} → checked_only (pack_under ims ns) ≡ refused x y → packing_under ims ns room ≡ refused x y
+    pub list_refused : {x y : ℕ} → checked_only (pack_list ims ns) ≡ refused x y → packing_under ims ns room ≡ refused x y
     unfolding packing_under ◌then◌
-    list_refused h = rw (checked_refused (pack_under ims ns) h)
+    list_refused h = rw (checked_refused (pack_list ims ns) h)
 
     -- 6 where its body is longer than the buffer
     pub list_room : Packable ims ns → room < body_size ims → packing_under ims ns room ≡ refused 6 0

@@ -40,7 +40,7 @@ use Rattle.codec.proofs.HalfLaws.{halves_of_packed, packed_of_halves, halves_len
 -- Answers and tests.
 
 -- a test has one value
-two_values : {B : Type 0} {b : Bool} → b ≡ true → b ≡ false → B
+pub two_values : {B : Type 0} {b : Bool} → b ≡ true → b ≡ false → B
 two_values p q = let e : ◌≡◌ {A = Bool} true false = sym p ∙ q in let z : ◌≡◌ {A = ℕ} 0 1 = cc in absurd (omega arith)
 
 -- a number that is not zero is positive
@@ -310,13 +310,13 @@ four_parts l a h x =
     ∙ take-append-drop a l
 
 -- the tests say what digits and zeros are
-digits_pass : (ds : List ℕ) → Digits ds → all_digits ds ≡ true
+pub digits_pass : (ds : List ℕ) → Digits ds → all_digits ds ≡ true
 unfolding Digits all_digits
 digits_pass [] h = refl
 digits_pass (d ∷ ds) h = rw (lt-ltb d 10 h.0) (digits_pass ds h.1)
 
 -- and the other way
-pass_digits : (ds : List ℕ) → all_digits ds ≡ true → Digits ds
+pub pass_digits : (ds : List ℕ) → all_digits ds ≡ true → Digits ds
 unfolding Digits all_digits
 pass_digits [] h = tt
 pass_digits (d ∷ ds) h = let p = and_true (ltb d 10) (all_digits ds) h in (ltb-true d 10 p.0, pass_digits ds p.1)
@@ -502,7 +502,7 @@ ten_times : (k q : ℕ) → k * 10 * q ≡ 10 * (k * q)
 ten_times k q = omega arith
 
 -- h digits that do not begin with 0 fill suc p digits with tens behind them
-filled_low : (p h k : ℕ) → 10 ^ h ≤ k * 10 → h ≤ suc p → 10 ^ p ≤ k * 10 ^ (suc p - h)
+pub filled_low : (p h k : ℕ) → 10 ^ h ≤ k * 10 → h ≤ suc p → 10 ^ p ≤ k * 10 ^ (suc p - h)
 filled_low p h k first le =
     let q = 10 ^ (suc p - h) in
     let parts : 10 ^ suc p ≡ 10 ^ h * q = ap (λ (e : ℕ). 10 ^ e) (omega arith) ∙ pow10_add h (suc p - h) in
@@ -510,7 +510,7 @@ filled_low p h k first le =
     omega (arith, ten_times k q, pow10_suc p)
 
 -- and no more
-filled_high : (p h k : ℕ) → k < 10 ^ h → h ≤ suc p → k * 10 ^ (suc p - h) < 10 ^ suc p
+pub filled_high : (p h k : ℕ) → k < 10 ^ h → h ≤ suc p → k * 10 ^ (suc p - h) < 10 ^ suc p
 filled_high p h k few le =
     let q = 10 ^ (suc p - h) in
     let parts : 10 ^ suc p ≡ 10 ^ h * q = ap (λ (e : ℕ). 10 ^ e) (omega arith) ∙ pow10_add h (suc p - h) in
@@ -518,14 +518,14 @@ filled_high p h k few le =
     omega arith
 
 -- the parts of the number of a whole that is not zero
-record Shifted (negative : Bool) (whole up down : ℕ) (n : Number) : Type 0 where
+pub record Shifted (negative : Bool) (whole up down : ℕ) (n : Number) : Type 0 where
   pub same_sign : n.negative ≡ negative
   pub tens : n.mantissa ≡ whole * 10 ^ leading_zeros precision whole
   pub place : n.exponent + (down + leading_zeros precision whole) ≡ exponent_limit + (precision - 1) + up
   pub limit : n.exponent ≤ 2 * exponent_limit
 
 -- a number that is given has these parts
-scaled_parts :
+pub scaled_parts :
     (column : ℕ) (negative : Bool) (whole up down : ℕ) {n : Number}
     → 0 < whole
     → whole < 10 ^ precision
@@ -702,7 +702,7 @@ module _ (im : Image) (checked : Checked im) (t : Truncated) (kept : Kept im t) 
 -- Which bytes are read.
 
 -- what halves that are read pass
-record HalvesPass (column : ℕ) (im : Image) (hs : List ℕ) (n : Number) : Type 0 where
+pub record HalvesPass (column : ℕ) (im : Image) (hs : List ℕ) (n : Number) : Type 0 where
   pub in_digits : all_digits (digit_part im hs) ≡ true
   pub in_exponent : all_digits (exponent_part im hs) ≡ true
   pub in_pad : all_zero (pad_part im hs) ≡ true
@@ -758,7 +758,7 @@ halves_view column im hs {n} h = go (any_of tests) refl h
         }
 
 -- the five rules, where none is broken
-record Rules (im : Image) (sign whole size : ℕ) : Type 0 where
+pub record Rules (im : Image) (sign whole size : ℕ) : Type 0 where
   pub plain : sign % 8 < 2
   pub minus : minus_bit sign ≡ true → 0 < whole
   pub below : below_bit sign ≡ true → 0 < size
@@ -766,7 +766,7 @@ record Rules (im : Image) (sign whole size : ℕ) : Type 0 where
   pub first : im.exponential ≡ true → 0 < whole → 10 ^ hashes im ≤ whole * 10
 
 -- what the test of the rules tells
-rules_view : (im : Image) (sign whole size : ℕ) → breaks_rules im sign whole size ≡ false → Rules im sign whole size
+pub rules_view : (im : Image) (sign whole size : ℕ) → breaks_rules im sign whole size ≡ false → Rules im sign whole size
 unfolding breaks_rules
 rules_view im sign whole size h =
     let a = leb 2 (sign % 8) in
@@ -872,7 +872,7 @@ module _ (im : Image) (sign whole size : ℕ) (rules : Rules im sign whole size)
         go false e = two_values m (ap minus_bit (unsigned e))
 
     -- what is said keeps to the bounds
-    said_kept : Kept im (said_by sign whole size)
+    pub said_kept : Kept im (said_by sign whole size)
     said_kept =
         record {
           size = said_wide;
@@ -896,14 +896,14 @@ first_half_lem [] g = omega arith
 first_half_lem (h ∷ hs) g = g.0
 
 -- so is the sign half
-sign_part_low : (s : Sign) (hs : List ℕ) → Halves hs → sign_part s hs < 16
+pub sign_part_low : (s : Sign) (hs : List ℕ) → Halves hs → sign_part s hs < 16
 unfolding sign_part
 sign_part_low Unsigned hs g = omega arith
 sign_part_low Plus hs g = first_half_lem hs g
 sign_part_low Minus hs g = first_half_lem hs g
 
 -- there is none under an unsigned image
-sign_part_none : (s : Sign) (hs : List ℕ) → is_signed s ≡ false → sign_part s hs ≡ 0
+pub sign_part_none : (s : Sign) (hs : List ℕ) → is_signed s ≡ false → sign_part s hs ≡ 0
 unfolding sign_part
 sign_part_none Unsigned hs u = refl
 sign_part_none Plus hs u = two_values refl u
@@ -939,36 +939,36 @@ exponent_halves_again false t [] none digits size = refl
 exponent_halves_again false t (e ∷ es) none digits size = absurd (omega arith)
 
 -- |x| has two digits, and none in fixed point
-exponent_few : (b : Bool) (es : List ℕ) → length es ≡ exponent_count b → Digits es → value_of es ≤ exponent_limit
+pub exponent_few : (b : Bool) (es : List ℕ) → length es ≡ exponent_count b → Digits es → value_of es ≤ exponent_limit
 exponent_few true es two digits = let e = ap (λ (n : ℕ). 10 ^ n) two in omega (arith, value_below es digits)
 exponent_few false es none digits = let e = ap (λ (n : ℕ). 10 ^ n) none in omega (arith, value_below es digits)
 
 -- in fixed point |x| is 0
-exponent_none : (b : Bool) (es : List ℕ) → length es ≡ exponent_count b → Digits es → b ≡ false → value_of es ≡ 0
+pub exponent_none : (b : Bool) (es : List ℕ) → length es ≡ exponent_count b → Digits es → b ≡ false → value_of es ≡ 0
 exponent_none true es two digits f = two_values refl f
 exponent_none false es none digits f = let e = ap (λ (n : ℕ). 10 ^ n) none in omega (arith, value_below es digits)
 
 module _ (im : Image) (hs : List ℕ) (filled : length hs ≡ half_count im + pad_count im) where
   -- the parts have their lengths: the digits
-  digit_part_length : length (digit_part im hs) ≡ hashes im
+  pub digit_part_length : length (digit_part im hs) ≡ hashes im
   unfolding digit_part
   digit_part_length =
       length-take-le (hashes im) (drop (sign_count im.sign) hs) (omega (arith, length-drop (sign_count im.sign) hs))
 
   -- the digits of |x|
-  exponent_part_length : length (exponent_part im hs) ≡ exponent_count im.exponential
+  pub exponent_part_length : length (exponent_part im hs) ≡ exponent_count im.exponential
   unfolding exponent_part
   exponent_part_length =
       length-take-le (exponent_count im.exponential) (drop (sign_count im.sign + hashes im) hs)
       (omega (arith, length-drop (sign_count im.sign + hashes im) hs))
 
   -- the padding
-  pad_part_length : length (pad_part im hs) ≡ pad_count im
+  pub pad_part_length : length (pad_part im hs) ≡ pad_count im
   unfolding pad_part
   pad_part_length = length-drop (half_count im) hs ∙ omega arith
 
   -- the parts are the whole
-  halves_whole : take (sign_count im.sign) hs ++ (digit_part im hs ++ (exponent_part im hs ++ pad_part im hs)) ≡ hs
+  pub halves_whole : take (sign_count im.sign) hs ++ (digit_part im hs ++ (exponent_part im hs ++ pad_part im hs)) ≡ hs
   unfolding digit_part exponent_part pad_part
   halves_whole = four_parts hs (sign_count im.sign) (hashes im) (exponent_count im.exponential)
 
@@ -998,7 +998,7 @@ module _ (im : Image) (hs : List ℕ) (filled : length hs ≡ half_count im + pa
     in_few = exponent_few im.exponential (exponent_part im hs) exponent_part_length (pass_digits (exponent_part im hs) pass.in_exponent)
 
     -- the truncation that is read keeps to the bounds
-    read_kept : Kept im said
+    pub read_kept : Kept im said
     read_kept =
         said_kept im sign whole size in_rules in_few
         (sign_part_none im.sign hs)
@@ -1053,7 +1053,7 @@ module _ (im : Image) (checked : Checked im) (place : ℕ) (bytes : List ℕ) (n
     halves_filled = halves_length bytes ∙ omega (arith, column_halves_lem im)
 
     -- what they pass
-    halves_pass : HalvesPass place im (halves_of bytes) n
+    pub halves_pass : HalvesPass place im (halves_of bytes) n
     unfolding unpack_column
     halves_pass = halves_view place im (halves_of bytes) read
 

@@ -11,15 +11,14 @@ use borrow.Author.Tests.{le-ltb, ltb-false, leb-true, le-leb, eqb-true, eq-eqb, 
 use Rattle.decimal.specs.declared.image.Sign.{Sign}
 use Rattle.decimal.specs.declared.image.Sign.TheVariants.{Unsigned, Plus, Minus}
 use Rattle.decimal.specs.declared.image.Image.{Image}
-use Rattle.decimal.specs.Answer.{Answer, done, refused, ◌then◌, pick, mapped}
+use Rattle.decimal.specs.Answer.{Answer, done, refused, ◌then◌, pick}
 use Rattle.decimal.specs.Image.{read_image}
 use Rattle.decimal.proofs.BoolLaws.{and_true}
 use Rattle.decimal.proofs.ImageLaws.{read_done}
-use Rattle.decimal.proofs.AnswerLaws.{never_done, done_same, then_done, mapped_back, mapped_done}
-use Rattle.codec.specs.declared.contents.Contents.{Contents}
+use Rattle.decimal.proofs.AnswerLaws.{never_done, done_same, then_done}
 use Rattle.codec.specs.Lists.{max_columns}
-use Rattle.codec.specs.Columns.{sign_count, exponent_count, half_count, pad_count, column_size, body_size, Checked, AllChecked, none, more}
-use Rattle.codec.specs.Contents.{Table, read_column, column_length, read_columns, columns_length, read_contents, read_alone, contents_of, check_count}
+use Rattle.codec.specs.Columns.{sign_count, exponent_count, half_count, pad_count, column_size, body_size, Checked, AllChecked, none, more, Sound}
+use Rattle.codec.specs.Contents.{Table, read_column, column_length, read_columns, columns_length, read_contents, read_alone, check_count}
 
 -- the image of each column is one of 1 to 13 # signs
 pub checked_at : {ims : List Image} → AllChecked ims → (i : ℕ) (d : Image) → i < length ims → Checked (get_or ims i d)
@@ -59,12 +58,6 @@ columns_checked (suc left) place bytes {ims} h =
     let same : b.value ∷ c.value ≡ ims = cc in
     subst (λ (l : List Image). AllChecked l × (length l ≡ suc left)) same
     (more (column_checked place bytes b.first) d.0, ap suc d.1)
-
--- the images of a contents that is read, and the count of them
-pub record Sound (ims : List Image) : Type 0 where
-  pub all : AllChecked ims
-  pub low : 1 ≤ length ims
-  pub high : length ims ≤ max_columns
 
 -- a contents that is read is sound
 pub contents_sound : (bytes : List ℕ) {table : Table} → read_contents bytes ≡ done table → Sound table.images
@@ -118,25 +111,6 @@ alone_checked bytes h = (alone_sound bytes h).all
 pub alone_count : (bytes : List ℕ) {table : Table} → read_alone bytes ≡ done table → (1 ≤ length table.images) × (length table.images ≤ max_columns)
 alone_count bytes h = let s = alone_sound bytes h in (s.low, s.high)
 
--- what the code has read, where it has read a contents
-pub record TableTold (a : Answer Table) (r : Contents) : Type 0 where
-  pub table : Table
-  pub reads : a ≡ done table
-  pub images : r.images.items ≡ table.images
-  pub size : r.size ≡ table.size
-  pub body : r.body ≡ body_size table.images
-
-pub told_read : (a : Answer Table) {r : Contents} → done r ≡ mapped contents_of a → TableTold a r
-told_read a h =
-    let t = mapped_back contents_of a h in
-    record {
-      table = t.0;
-      reads = t.1;
-      images = ap (λ (x : Contents). x.images.items) t.2;
-      size = ap (λ (x : Contents). x.size) t.2;
-      body = ap (λ (x : Contents). x.body) t.2;
-    }
-
 module _ (bytes : List ℕ) where
   -- a contents that is refused is refused alone
   pub alone_first : {number place : ℕ} → read_contents bytes ≡ refused number place → read_alone bytes ≡ refused number place
@@ -149,20 +123,9 @@ module _ (bytes : List ℕ) where
   alone_same {table} h l = rw (h, eq-eqb table.size (length bytes) l)
 
   -- one that does not is refused alone
-  alone_more : {table : Table} → read_contents bytes ≡ done table → (table.size ≡ length bytes → ⊥) → read_alone bytes ≡ refused 11 0
+  pub alone_more : {table : Table} → read_contents bytes ≡ done table → (table.size ≡ length bytes → ⊥) → read_alone bytes ≡ refused 11 0
   unfolding read_alone ◌then◌
   alone_more {table} h l = rw (h, ne_eqb table.size (length bytes) l)
-
-  module _ {r : Contents} (h : done r ≡ mapped contents_of (read_contents bytes)) where
-    -- so the code's contents is the one read alone where it fills the bytes
-    pub alone_whole : r.size ≡ length bytes → done r ≡ mapped contents_of (read_alone bytes)
-    alone_whole l =
-        let t = told_read (read_contents bytes) h in
-        h ∙ ap (mapped contents_of) (t.reads ∙ sym (alone_same t.reads (sym t.size ∙ l)))
-
-    -- else it is refused
-    pub alone_long : (r.size ≡ length bytes → ⊥) → read_alone bytes ≡ refused 11 0
-    alone_long l = let t = told_read (read_contents bytes) h in alone_more t.reads (λ z. l (t.size ∙ z))
 
 -- a column's halves fill its bytes
 pub column_halves_lem : (im : Image) → column_size im + column_size im ≡ half_count im + pad_count im
@@ -360,9 +323,7 @@ module _ (count : ℕ) (bytes : List ℕ) where
         → Reading bytes count ims body rest column
         → count ≤ column
         → size + length rest ≡ suc (length bytes)
-        → ◌≡◌ {A = Answer Contents} (done (record { images = record { items = ims }; size = size; body = body })) (mapped contents_of (read_contents (count ∷ bytes)))
+        → read_contents (count ∷ bytes) ≡ done (record { images = ims; size = size })
     contents_made {ims} {body} {column} {size} {rest} r h fills =
-        let same : size ≡ suc (columns_length count bytes) = omega (arith, reading_length r h, fills) in
-        let made : ◌≡◌ {A = Contents} (record { images = record { items = ims }; size = size; body = body }) (contents_of (record { images = ims; size = suc (columns_length count bytes) })) =
-        λ i. record { images = record { items = ims }; size = same i; body = r.size i } in
-        ap {B = Answer Contents} done made ∙ sym (mapped_done contents_of (contents_read (reading_ends r h)))
+        let same : suc (columns_length count bytes) ≡ size = omega (arith, reading_length r h, fills) in
+        contents_read (reading_ends r h) ∙ λ i. done (record { images = ims; size = same i })

@@ -7,10 +7,9 @@ use lib.ListN.{length, take, drop, length-append, take-append-drop}
 use lib.Seq.{length-take-le, take-take, take-append-le, take-append_seam}
 use Rattle.decimal.specs.declared.image.Image.{Image}
 use Rattle.decimal.specs.Answer.{done}
-use Rattle.codec.specs.Columns.{body_size, AllChecked, none, more}
-use Rattle.codec.specs.Contents.{Table, read_contents, read_alone, check_images}
+use Rattle.codec.specs.Columns.{body_size, AllChecked, none, more, Sound}
+use Rattle.codec.specs.Contents.{Table, contents_bytes, read_contents, read_alone}
 use Rattle.codec.specs.Alpha.{line_length}
-use Rattle.codec.proofs.UnderLaws.{checked_checks}
 use Rattle.codec.proofs.ContentsLaws.{contents_sound, alone_same, column_some}
 use Rattle.codec.proofs.ContentsTheorem.{contents_exactly, contents_length}
 
@@ -71,15 +70,19 @@ contents_alone bytes {table} h =
 -- The images of a contents that is read.
 
 -- a body under columns has a byte
-body_some : {ims : List Image} → AllChecked ims → 1 ≤ length ims → 0 < body_size ims
+pub body_some : {ims : List Image} → AllChecked ims → 1 ≤ length ims → 0 < body_size ims
 unfolding body_size
 body_some none h = absurd (omega arith)
 body_some (more c cs) h = omega (arith, column_some c)
 
+-- Published: a body under images that a contents can have has a byte.
+pub sound_body : {ims : List Image} → Sound ims → 0 < body_size ims
+sound_body s = body_some s.all s.low
+
 -- Published: a body under a contents has a byte.
 pub contents_body : (bytes : List ℕ) {table : Table} → read_contents bytes ≡ done table → 0 < body_size table.images
-contents_body bytes h = let s = contents_sound bytes h in body_some s.all s.low
+contents_body bytes h = sound_body (contents_sound bytes h)
 
--- Published: its images are such as a contents can have.
-pub contents_checks : (bytes : List ℕ) {table : Table} → read_contents bytes ≡ done table → check_images table.images ≡ done tt
-contents_checks bytes h = let s = contents_sound bytes h in checked_checks s.all s.low s.high
+-- Published: its length is that of the bytes of a contents of its images.
+pub contents_sized : (bytes : List ℕ) {table : Table} → read_contents bytes ≡ done table → table.size ≡ length (contents_bytes table.images)
+contents_sized bytes h = let f = (contents_exactly bytes).0 h in f.size ∙ ap length f.is_contents.rendered

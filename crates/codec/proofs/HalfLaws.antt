@@ -174,7 +174,7 @@ exponent_size_few x h = go (ltb x exponent_limit)
 -- Order.
 
 -- two tests are the same where they hold together
-same_test : (a b c d : ℕ) → (a < b → c < d) → (b ≤ a → d ≤ c) → ltb a b ≡ ltb c d
+pub same_test : (a b c d : ℕ) → (a < b → c < d) → (b ≤ a → d ≤ c) → ltb a b ≡ ltb c d
 same_test a b c d less above =
     ⊎_elim
     (λ h. le-ltb a b h ∙ sym (le-ltb c d (above h)))

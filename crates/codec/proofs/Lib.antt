@@ -1,10 +1,12 @@
 -- The laws of layer 2, from the lowest up.
 pub mod ListLaws
 pub mod BufferLaws
+pub mod ComingLaws
 pub mod WrittenTheorem
 pub mod ContentsLaws
 pub mod RefusalLaws
 pub mod UnderLaws
+pub mod TableLaws
 pub mod HalfLaws
 pub mod FitLaws
 pub mod RunLaws
@@ -18,6 +20,8 @@ pub mod UnpackLaws
 pub mod OrderTheorem
 pub mod ColumnTheorem
 pub mod ReadBackTheorem
+pub mod OrderingLaws
+pub mod LeftLaws
 pub mod AlphaLaws
 pub mod LineLaws
 pub mod ContentsTheorem
@@ -33,6 +37,16 @@ pub mod LongestTheorem
 pub mod AlphaForm
 pub mod ReadingTheorem
 pub mod WalkLaws
-pub mod CutTheorem
+pub mod PiecesTheorem
 pub mod WalkTheorem
 pub mod StrictTheorem
+pub mod NibbleLaws
+pub mod ReadLaws
+pub mod CutLaws
+pub mod CutReadLaws
+pub mod CutNumberLaws
+pub mod BlockLaws
+pub mod PlainLaws
+pub mod CutValueLaws
+pub mod BodyTextLaws
+pub mod BodiesLaws

@@ -1,5 +1,5 @@
 -- Laws of the alpha texts of a list: those of numbers that a body holds exist, and how long their line is. Assumes nothing.
-use Prim.Native.Nat.{ℕ, suc, ◌+◌, ◌*◌, ◌/◌, ◌%◌, ◌≤◌}
+use Prim.Native.Nat.{ℕ, suc, ◌+◌, ◌*◌, ◌/◌, ◌%◌, ◌<◌, ◌≤◌}
 use mathlib.Core.Path.{◌≡◌, refl, ap, sym, ◌∙◌, subst}
 use mathlib.Core.List.{List, [], ◌∷◌}
 use mathlib.Core.Bool.{Bool, true, false}
@@ -14,7 +14,7 @@ use Rattle.decimal.specs.Image.{hashes, image_bytes}
 use Rattle.decimal.specs.Truncation.{truncated_to}
 use Rattle.decimal.proofs.ImageLaws.{reads_image}
 use Rattle.decimal.proofs.TruncationLaws.{fit_truncation}
-use Rattle.codec.specs.Columns.{Checked, AllChecked, sign_count, exponent_count, column_size, body_size}
+use Rattle.codec.specs.Columns.{Checked, AllChecked, Sound, sign_count, exponent_count, column_size, body_size}
 use Rattle.codec.specs.Unpacking.{unpack_columns, unpack_body}
 use Rattle.codec.specs.Alpha.{blank_byte, alpha_text, alpha_under, alpha_of, alpha_texts, parted, fraction_length, exponent_length, tail_length, text_length, line_length}
 use Rattle.decimal.proofs.AnswerLaws.{then_done}
@@ -173,7 +173,13 @@ pub unpacked_texts :
     → (texts : List (List ℕ)) × (alpha_texts ims ns ≡ done texts)
 unpacked_texts {ims} checked body h = let p = body_view ims body h in columns_texts 0 checked body p.0 p.1
 
--- How long a line is at most.
+-- How long a line is, at most and at least.
+
+-- no line is empty
+pub line_some : (ims : List Image) → Sound ims → 0 < line_length ims
+unfolding line_length
+line_some [] s = absurd (omega (arith, s.low))
+line_some (im ∷ ims) s = omega arith
 
 -- a column's text and one byte are at most four times the column's bytes
 pub column_text : {im : Image} → Checked im → suc (text_length im) ≤ 4 * column_size im

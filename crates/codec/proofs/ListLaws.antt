@@ -1,9 +1,9 @@
 -- Laws of lists that arrays hold. Assumes nothing.
 use Prim.Native.Nat.{ℕ, zero, suc, ◌<◌}
 use mathlib.Core.Path.{◌≡◌, refl, ap}
-use mathlib.Core.List.{List, [], ◌∷◌, ◌++◌}
+use mathlib.Core.List.{List, [], ◌∷◌}
 use native.Mathlib.Omega.{arith}
-use lib.ListN.{get_or-append, length, get_or}
+use lib.ListN.{length, get_or}
 use Rattle.codec.specs.Lists.{filled}
 
 -- a default plays no part inside a list
@@ -25,7 +25,3 @@ module _ {A : Type 0} (d : A) where
   unfolding filled
   filled_same [] = refl
   filled_same (x ∷ xs) = ap (λ (l : List A). x ∷ l) (filled_same xs)
-
--- an element of two lists put together, before the seam
-pub get_d_before : (xs ys : List ℕ) (n i : ℕ) → length xs ≡ n → i < n → get_or (xs ++ ys) i 0 ≡ get_or xs i 0
-get_d_before xs ys n i e h = get_or-append xs ys 0 i (omega arith)

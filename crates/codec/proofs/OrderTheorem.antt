@@ -106,7 +106,7 @@ pick_done true number place a h = let z : ◌≡◌ {A = ℕ} 0 1 = cc in absurd
 pick_done false number place a h = cc
 
 -- what is known of a number that packs, and of its truncation
-record Column (im : Image) (n : Number) (t : Truncated) : Type 0 where
+pub record Column (im : Image) (n : Number) (t : Truncated) : Type 0 where
   pub fits : t.whole < 10 ^ hashes im
   pub means : magnitude_in (truncated_number 0 im n) * 10 ^ (exponent_limit + im.fraction) ≡ t.whole * 10 ^ exponent_limit * unit
 
@@ -126,7 +126,7 @@ module _ (im : Image) (kind : UnsignedFixed im) where
       (ap (λ (b : Bool). exponent_halves b t) kind.fixed)
 
   -- columns come in the order of their digits as whole numbers
-  column_order :
+  pub column_order :
       (s t : Truncated)
       → s.whole < 10 ^ hashes im
       → t.whole < 10 ^ hashes im
@@ -148,12 +148,12 @@ module _ (im : Image) (kind : UnsignedFixed im) where
 
   module _ (n : Number) (fit : Fit im n) where
     -- fixed point: the digits are the whole part
-    fixed_whole_lem : whole_of im n ≡ fixed_whole im n
+    pub fixed_whole_lem : whole_of im n ≡ fixed_whole im n
     unfolding whole_of
     fixed_whole_lem = ap (λ (b : Bool). pick b (leading_whole im n) (fixed_whole im n)) kind.fixed
 
     -- the digits fit the image
-    whole_fits : (truncated_to im n).whole < 10 ^ hashes im
+    pub whole_fits : (truncated_to im n).whole < 10 ^ hashes im
     unfolding truncated_to exceeds
     whole_fits =
         let within : exceeds im n ≡ false = subst (λ (b : Bool). pick b (exponent_outside im n) (exceeds im n) ≡ false) kind.fixed fit.within in
@@ -164,7 +164,7 @@ module _ (im : Image) (kind : UnsignedFixed im) where
     stored = ⊎_elim (λ z. stored_zero im n z) (λ nz. stored_fixed im n nz kind.fixed) (zero_or_not n.mantissa)
 
     -- the truncated magnitude is the digits' whole number by a constant of the image
-    whole_means :
+    pub whole_means :
         magnitude_in (truncated_number 0 im n) * 10 ^ (exponent_limit + im.fraction) ≡ (truncated_to im n).whole * 10 ^ exponent_limit * unit
     unfolding truncated_number number_of ◌then◌ magnitude_in truncated_to
     whole_means =
@@ -176,7 +176,7 @@ module _ (im : Image) (kind : UnsignedFixed im) where
         ∙ ap (λ (x : ℕ). whole_of im n * 10 ^ x * unit) stored
 
   -- a number that packs
-  column_of : (place : ℕ) (n : Number) {t : Truncated} → packed_truncation place im n ≡ done t → Column im n t
+  pub column_of : (place : ℕ) (n : Number) {t : Truncated} → packed_truncation place im n ≡ done t → Column im n t
   unfolding packed_truncation packable
   column_of place n {t} h =
       let both = then_done (truncation place im n) (packable place im) h in

@@ -1,6 +1,7 @@
 -- Laws of when a number packs under an image, and of lists of which each number does. Assumes nothing.
 use Prim.Native.Nat.{ℕ, suc, ◌<◌, ◌≤◌}
-use mathlib.Core.Path.{◌≡◌, refl, ap, subst}
+use mathlib.Core.Path.{◌≡◌, refl, ap, sym, ◌∙◌, subst}
+use Rattle.std.specs.Prelude.{not, ◌&&◌, nat_lt}
 use mathlib.Core.List.{List}
 use mathlib.Core.Bool.{Bool, true, false}
 use mathlib.Core.Logic.{⊎_elim}
@@ -9,14 +10,16 @@ use lib.Dec.{eqb}
 use lib.ListN.{length}
 use Rattle.decimal.specs.declared.image.Image.{Image}
 use Rattle.decimal.specs.declared.number.Number.{Number}
-use Rattle.decimal.specs.Answer.{Answer, done, refused, pick}
+use Rattle.decimal.specs.Answer.{Answer, done, refused, pick, checked_only, ◌then◌}
 use Rattle.decimal.specs.Number.{exponent_limit}
 use Rattle.decimal.specs.Image.{hashes}
-use Rattle.decimal.specs.Truncation.{Truncated, truncated_to, truncation, packed_truncation, exceeds, exponent_outside, Fit, is_signed, stored_exponent}
-use Rattle.decimal.proofs.TruncationLaws.{truncation_fit, packed_refused, packed_signed, packed_negative, packed_unsigned}
+use Rattle.decimal.specs.Truncation.{Truncated, truncated_to, truncation, packable, packed_truncation, exceeds, exponent_outside, Fit, is_signed, stored_exponent}
+use Rattle.decimal.proofs.TruncationLaws.{fit_truncation, truncation_fit, packed_refused, packed_signed, packed_negative, packed_unsigned}
 use Rattle.decimal.proofs.DigitLaws.{le_or_lt}
 use Rattle.codec.specs.Packing.AllPack.{none, one}
-use Rattle.codec.specs.Packing.{PackConditions, PacksUnder, AllPack}
+use Rattle.decimal.proofs.AnswerLaws.{never_done}
+use Rattle.codec.specs.Answers.{within}
+use Rattle.codec.specs.Packing.{column_bytes, storing_column, PackConditions, PacksUnder, AllPack}
 
 module _ (place : ℕ) (im : Image) (n : Number) where
   -- only a number that fits is packed
@@ -109,3 +112,42 @@ pack_conditions {im} {n} p =
 pub packs_length : {ims : List Image} {ns : List Number} → AllPack ims ns → length ns ≡ length ims
 packs_length none = refl
 packs_length (one p ps) = ap suc (packs_length ps)
+
+-- A column into a buffer.
+
+module _ (im : Image) (t : Truncated) (room : ℕ) where
+  -- 5 comes first
+  pub storing_refused : {number place : ℕ} → refused number place ≡ checked_only (packable 0 im t) → storing_column im t room ≡ refused number place
+  unfolding storing_column packable checked_only ◌then◌
+  storing_refused {number} {place} h = go (not (is_signed im.sign) && nat_lt t.x exponent_limit) h
+    where
+      go : (b : Bool) → refused number place ≡ checked_only (pick b (refused 5 0) (done t))
+          → (pick b (refused 5 0) (done t) then λ u. within room (column_bytes im u)) ≡ refused number place
+      go true e = cc
+      go false e = never_done e
+
+  -- else there is a column
+  pub storing_done : done tt ≡ checked_only (packable 0 im t) → storing_column im t room ≡ within room (column_bytes im t)
+  unfolding storing_column packable checked_only ◌then◌
+  storing_done h = go (not (is_signed im.sign) && nat_lt t.x exponent_limit) h
+    where
+      go : (b : Bool) → done tt ≡ checked_only (pick b (refused 5 0) (done t))
+          → (pick b (refused 5 0) (done t) then λ u. within room (column_bytes im u)) ≡ within room (column_bytes im t)
+      go true e = never_done (sym e)
+      go false e = refl
+
+-- a number that packs has its column
+module _ (place : ℕ) (im : Image) (n : Number) where
+  packed_packable : {t : Truncated} → packed_truncation place im n ≡ done t → packable 0 im (truncated_to im n) ≡ done (truncated_to im n)
+  unfolding packed_truncation ◌then◌
+  packed_packable h =
+      ap (λ (a : Answer Truncated). a then packable 0 im) (sym (fit_truncation 0 im n (packed_fit place im n h)))
+      ∙ packed_anywhere place im n h 0
+
+  pub storing_packed :
+      {t : Truncated}
+      → packed_truncation place im n ≡ done t
+      → (room : ℕ)
+      → storing_column im (truncated_to im n) room ≡ within room (column_bytes im (truncated_to im n))
+  unfolding storing_column ◌then◌
+  storing_packed h room = ap (λ (a : Answer Truncated). a then λ u. within room (column_bytes im u)) (packed_packable h)

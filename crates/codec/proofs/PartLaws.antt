@@ -5,7 +5,7 @@ use mathlib.Core.Path.{◌≡◌, refl, ap, ap₂, sym, ◌∙◌}
 use mathlib.Core.List.{List, [], ◌∷◌, ◌++◌, append-nil, append_assoc}
 use mathlib.Core.Bool.{Bool, true, false}
 use native.Mathlib.Omega.{arith}
-use borrow.Author.Tests.{ltb-true, leb-true, eqb-true, lt-ltb, le-leb, lt-leb, ne_eqb}
+use borrow.Author.Tests.{ltb-true, leb-true, eqb-true, lt-ltb, le-leb, ne_eqb}
 use lib.Dec.{ltb, leb, eqb}
 use lib.ListN.{length, drop, length-append}
 use lib.Seq.{drop-append_seam, drop-drop}
@@ -41,10 +41,6 @@ digits_right (x ∷ xs) ys h = digits_right xs ys h.1
 -- the byte of a digit is one
 pub digit_byte : (d : ℕ) → d < 10 → is_digit (zero_byte + d) ≡ true
 digit_byte d h = rw (le-leb zero_byte (zero_byte + d) (omega arith), lt-ltb (zero_byte + d) (zero_byte + 10) (omega arith))
-
--- bytes below those of digits are none
-other_byte : (b : ℕ) → b < zero_byte → is_digit b ≡ false
-other_byte b h = rw (lt-leb zero_byte b h)
 
 -- What each reader takes of its part's bytes and of what follows.
 

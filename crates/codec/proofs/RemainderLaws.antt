@@ -9,14 +9,14 @@ use Rattle.decimal.specs.declared.image.Image.{Image}
 use Rattle.decimal.specs.declared.number.Number.{Number}
 use Rattle.decimal.specs.declared.remainder.Remainder.{Remainder}
 use Rattle.decimal.specs.Answer.{done, refused, ◌then◌}
-use Rattle.decimal.specs.Truncation.{truncated_to}
-use Rattle.decimal.specs.Remainder.{cut_off, remainder}
-use Rattle.decimal.proofs.AnswerLaws.{done_same, then_next, then_refused}
-use Rattle.decimal.proofs.RemainderLaws.{remainder_fit}
+use Rattle.decimal.specs.Truncation.{truncated_to, Fit}
+use Rattle.decimal.specs.Remainder.{cut_off}
+use Rattle.decimal.proofs.AnswerLaws.{then_done, then_next, then_refused}
+use Rattle.codec.specs.Answers.{within}
 use Rattle.codec.specs.Contents.{Table, read_alone}
-use Rattle.codec.specs.Packing.{pack_list, body_of, packing, AllPack}
+use Rattle.codec.specs.Packing.{pack_list, body_of, packing_under, packing, AllPack}
 use Rattle.codec.specs.Packing.AllPack.{none, one}
-use Rattle.codec.specs.Remainders.{cut_columns, packing_remainders}
+use Rattle.codec.specs.Remainders.{cut_columns, packing_remainders, remainders_under}
 use Rattle.codec.proofs.PackLaws.{packed_anywhere, packs_fit, packs_length}
 use Rattle.codec.proofs.BodyLaws.{packed_only, next_packs, none_packs}
 use Rattle.codec.proofs.RoomTheorem.{packing_body}
@@ -56,16 +56,15 @@ leaving_starts {ims} {left_ims} {ns} packs images numbers =
 
 module _ {all : List Remainder} {ims later_ims : List Image} {ns later_ns : List Number} {found : List Remainder} {im : Image} {n : Number}
     (l : Leaving all ims ns found) (images : ims ≡ im ∷ later_ims) (numbers : ns ≡ n ∷ later_ns) where
-  -- what truncation leaves of the next number is found
-  pub left_next : remainder 0 im n ≡ done (cut_off im n (truncated_to im n))
-  left_next = remainder_fit im n (packs_fit (next_packs l.packs images numbers).0) 0
+  -- the next number fits its image
+  pub left_fits : Fit im n
+  left_fits = packs_fit (next_packs l.packs images numbers).0
 
   -- one remainder more
   pub leaving_turns :
-      {r : Remainder} {after : List Remainder} → done r ≡ remainder 0 im n → after ≡ found ++ r ∷ [] → Leaving all later_ims later_ns after
+      {r : Remainder} {after : List Remainder} → r ≡ cut_off im n (truncated_to im n) → after ≡ found ++ r ∷ [] → Leaving all later_ims later_ns after
   unfolding left_of
-  leaving_turns {r} {after} given pushed =
-      let same : r ≡ cut_off im n (truncated_to im n) = done_same (given ∙ left_next) in
+  leaving_turns {r} {after} same pushed =
       rw pushed
       (record {
         packs = (next_packs l.packs images numbers).1;
@@ -125,3 +124,20 @@ pub body_left :
     → packing contents ns room ≡ done body
     → packing_remainders contents ns room ≡ done (left_of table.images ns)
 body_left contents ns room {table} reads h = remainders_found contents ns room reads h ∙ packs_left 0 (body_packs contents ns room reads h)
+
+module _ (ims : List Image) (ns : List Number) (room : ℕ) where
+  -- the same of a list under images: refused as packing is
+  pub under_left_refused : {x y : ℕ} → packing_under ims ns room ≡ refused x y → remainders_under ims ns room ≡ refused x y
+  unfolding remainders_under
+  under_left_refused h = then_refused _ h
+
+  -- with a body it packs
+  pub under_packs : {body : List ℕ} → packing_under ims ns room ≡ done body → AllPack ims ns
+  unfolding packing_under
+  under_packs h =
+      packed_only ims ns (then_done (pack_list ims ns) (within room) h).first
+
+  -- and the remainders are those of its columns
+  pub under_found : {body : List ℕ} → packing_under ims ns room ≡ done body → remainders_under ims ns room ≡ cut_columns 0 ims ns
+  unfolding remainders_under
+  under_found h = then_next _ h

@@ -5,10 +5,12 @@ use mathlib.Core.Path.{◌≡◌, refl, ap, ap₂, sym, ◌∙◌}
 use mathlib.Core.List.{List, [], ◌∷◌, ◌++◌, append-nil, append_assoc}
 use mathlib.Core.Bool.{Bool, true, false}
 use native.Mathlib.Omega.{arith}
-use native.Mathlib.Nat.{mod-eq_of_lt}
+use native.Mathlib.Nat.{div-one, suc-add, mod-eq_of_lt}
 use lib.Bits.{bit_or, or_shifted}
 use lib.Pow.{shl_exact, shr-shr, mod-pow-add}
-use lib.ListN.{length, get_or, length-append}
+use lib.ListN.{length, get_or, take, drop, length-append}
+use Rattle.std.specs.Int.{w128, to_be_bytes}
+use Rattle.std.proofs.lemmas.List.{take_all}
 use Rattle.decimal.specs.declared.image.Image.{Image}
 use Rattle.decimal.specs.Digits.{precision, digits_of, packed_of, halves_in, zeros, Halves}
 use Rattle.decimal.specs.Number.{exponent_limit}
@@ -33,7 +35,7 @@ byte_halves run s =
     ap₂ (λ (h l : ℕ). h % 2 ^ 4 * 16 + l % 2 ^ 4) high low ∙ sym (mod-pow-add (run / 2 ^ (8 * s)) 4 4)
 
 -- the bytes of a run, the first one apart
-bytes_more : (size run : ℕ) → pack_halves (halves_in (2 * suc size) run) ≡ run / 2 ^ (8 * size) % 2 ^ 8 ∷ pack_halves (halves_in (2 * size) run)
+pub bytes_more : (size run : ℕ) → pack_halves (halves_in (2 * suc size) run) ≡ run / 2 ^ (8 * size) % 2 ^ 8 ∷ pack_halves (halves_in (2 * size) run)
 unfolding pack_halves halves_in
 bytes_more size run =
     let even : 2 * suc size ≡ suc (suc (2 * size)) = omega arith in
@@ -71,18 +73,18 @@ run_digits {n} {whole} few small e =
 
 -- half bytes put behind others
 pub run_joined :
-    (hs ts : List ℕ) {n run behind : ℕ}
+    (w : ℕ) (hs ts : List ℕ) {n run behind : ℕ}
     → length ts ≡ n
-    → length hs + n ≤ 16
+    → 4 * (length hs + n) ≤ w
     → Halves hs
     → Halves ts
     → run ≡ packed_of hs
     → behind ≡ packed_of ts
-    → bit_or (run * 2 ^ (4 * n) % 2 ^ 64) behind ≡ packed_of (hs ++ ts)
-run_joined hs ts {n} {run} {behind} long few first last front back =
+    → bit_or (run * 2 ^ (4 * n) % 2 ^ w) behind ≡ packed_of (hs ++ ts)
+run_joined w hs ts {n} {run} {behind} long few first last front back =
     let above : run < 2 ^ (4 * length hs) = rw front (packed_below hs first) in
     let below : behind < 2 ^ (4 * n) = rw (back, ← long) (packed_below ts last) in
-    let exact : run * 2 ^ (4 * n) % 2 ^ 64 ≡ run * 2 ^ (4 * n) = shl_exact (4 * length hs) (4 * n) 64 above (omega arith) in
+    let exact : run * 2 ^ (4 * n) % 2 ^ w ≡ run * 2 ^ (4 * n) = shl_exact (4 * length hs) (4 * n) w above (omega arith) in
     ap (λ (h : ℕ). bit_or h behind) exact
     ∙ or_shifted run (4 * n) behind below
     ∙ rw (front, back, ← long) (sym (packed_append hs ts))
@@ -90,15 +92,15 @@ run_joined hs ts {n} {run} {behind} long few first last front back =
 -- zero half bytes put behind others
 pub run_padded :
     (hs : List ℕ) (n : ℕ) {run : ℕ}
-    → length hs + n ≤ 16
+    → length hs + n ≤ 32
     → Halves hs
     → run ≡ packed_of hs
-    → run * 2 ^ (4 * n) % 2 ^ 64 ≡ packed_of (hs ++ zeros n)
+    → run * 2 ^ (4 * n) % 2 ^ 128 ≡ packed_of (hs ++ zeros n)
 unfolding packed_of
 run_padded hs n {run} few halves e =
     let above : run < 2 ^ (4 * length hs) = rw e (packed_below hs halves) in
     let none : packed_of (zeros n) ≡ 0 = ap packed_of (sym (append-nil (zeros n))) ∙ packed_zeros n [] in
-    shl_exact (4 * length hs) (4 * n) 64 above (omega arith)
+    shl_exact (4 * length hs) (4 * n) 128 above (omega arith)
     ∙ rw e (omega (arith, none, packed_append hs (zeros n), ap (λ (k : ℕ). packed_of hs * 2 ^ (4 * k)) (zeros_length n)))
 
 -- the two digits of |x|
@@ -111,7 +113,7 @@ unfolding exponent_halves digits_of packed_of Halves
 exponent_made t {size} sized small =
     let tens : size / 10 ≡ size / 10 % 10 = sym (mod-eq_of_lt (omega arith)) in
     let ones : size % 10 ≡ size / 1 % 10 = ap (λ (k : ℕ). k % 10) (omega arith) in
-    run_joined (size / 10 ∷ []) (size % 10 ∷ []) {run = size / 10} {behind = size % 10} refl (omega arith) (omega arith, tt) (omega arith, tt) (omega arith) (omega arith)
+    run_joined 64 (size / 10 ∷ []) (size % 10 ∷ []) {run = size / 10} {behind = size % 10} refl (omega arith) (omega arith, tt) (omega arith, tt) (omega arith) (omega arith)
     ∙ ap₂ (λ (a b : ℕ). packed_of (a ∷ (b ∷ []))) tens ones
     ∙ ap (λ (k : ℕ). packed_of (digits_of 2 k)) sized
 
@@ -138,10 +140,10 @@ module _ (im : Image) (t : Truncated) where
       → im.exponential ≡ true
       → run ≡ packed_of column_front
       → size ≡ packed_of (exponent_halves true (zero_at t.x))
-      → bit_or (run * 2 ^ 8 % 2 ^ 64) size ≡ packed_of (column_front ++ exponent_halves im.exponential t)
+      → bit_or (run * 2 ^ 8 % 2 ^ 128) size ≡ packed_of (column_front ++ exponent_halves im.exponential t)
   unfolding exponent_halves exponent_size
   exponent_joined few kind front behind =
-      run_joined column_front (exponent_halves true t) (exponent_halves_length true t) (omega (arith, front_length, sign_few im.sign)) front_halves (exponent_halves_below true t) front behind
+      run_joined 128 column_front (exponent_halves true t) (exponent_halves_length true t) (omega (arith, front_length, sign_few im.sign)) front_halves (exponent_halves_below true t) front behind
       ∙ ap (λ (b : Bool). packed_of (column_front ++ exponent_halves b t)) (sym kind)
 
   -- in fixed point there is none
@@ -156,13 +158,13 @@ module _ (im : Image) (t : Truncated) where
       → hashes im ≤ precision
       → run ≡ packed_of (column_front ++ exponent_halves im.exponential t)
       → count ≡ half_count im
-      → run * 2 ^ (4 * (count % 2)) % 2 ^ 64 ≡ packed_of (column_halves im t)
+      → run * 2 ^ (4 * (count % 2)) % 2 ^ 128 ≡ packed_of (column_halves im t)
   unfolding column_halves
   column_padded {run} few before counted =
       let tail = exponent_halves im.exponential t in
       let long : length (column_front ++ tail) ≡ half_count im =
       length-append column_front tail ∙ omega (arith, front_length, exponent_halves_length im.exponential t) in
-      ap (λ (n : ℕ). run * 2 ^ (4 * (n % 2)) % 2 ^ 64) counted
+      ap (λ (n : ℕ). run * 2 ^ (4 * (n % 2)) % 2 ^ 128) counted
       ∙ run_padded (column_front ++ tail) (pad_count im) (omega (arith, sign_few im.sign, exponent_few im.exponential))
       (halves_append column_front tail front_halves (exponent_halves_below im.exponential t)) before
       ∙ ap packed_of (append_assoc column_front tail (zeros (pad_count im)) ∙ append_assoc (sign_halves im.sign t) (digits_of (hashes im) t.whole) (tail ++ zeros (pad_count im)))
@@ -176,6 +178,33 @@ module _ (im : Image) (t : Truncated) where
       ∙ ap pack_halves (halves_of_packed (2 * size) (column_halves im t) (omega (arith, column_even im t)) (column_halves_below im t))
 
   -- a column is at most as many bytes as a run of half bytes makes
-  pub run_room : hashes im ≤ precision → column_size im ≤ 8
+  pub run_room : hashes im ≤ precision → column_size im ≤ 16
   unfolding column_size
   run_room few = omega (arith, sign_few im.sign, exponent_few im.exponential)
+
+-- one byte more
+pub more_bytes : (size n : ℕ) {rest : List ℕ} → rest ≡ pack_halves (halves_in (2 * size) n) → n / 2 ^ (8 * size) % 2 ^ 8 ∷ rest ≡ pack_halves (halves_in (2 * suc size) n)
+more_bytes size n e = ap (λ (l : List ℕ). n / 2 ^ (8 * size) % 2 ^ 8 ∷ l) e ∙ sym (bytes_more size n)
+
+-- the bytes of a run of 16, the highest first
+pub wide_bytes : (n : ℕ) → to_be_bytes w128 n ≡ pack_halves (halves_in 32 n)
+unfolding pack_halves halves_in
+wide_bytes n =
+    let last : n % 2 ^ 8 ≡ n / 2 ^ 0 % 2 ^ 8 = ap (λ (k : ℕ). k % 2 ^ 8) (sym (div-one n)) in
+    let four = more_bytes 3 n (more_bytes 2 n (more_bytes 1 n (ap (λ (b : ℕ). b ∷ []) last ∙ more_bytes 0 n refl))) in
+    let eight = more_bytes 7 n (more_bytes 6 n (more_bytes 5 n (more_bytes 4 n four))) in
+    more_bytes 15 n (more_bytes 14 n (more_bytes 13 n (more_bytes 12 n (more_bytes 11 n (more_bytes 10 n (more_bytes 9 n (more_bytes 8 n eight)))))))
+
+-- the last bytes of a run
+pub last_bytes : (j m k : ℕ) → drop j (pack_halves (halves_in (2 * (j + m)) k)) ≡ pack_halves (halves_in (2 * m) k)
+last_bytes zero m k = ap (λ (n : ℕ). pack_halves (halves_in (2 * n) k)) (omega arith)
+last_bytes (suc j) m k =
+    ap (λ (n : ℕ). drop (suc j) (pack_halves (halves_in (2 * n) k))) (suc-add j m) ∙ ap (drop (suc j)) (bytes_more (j + m) k) ∙ last_bytes j m k
+
+-- so they are of a run of fewer bytes
+pub run_bytes : (m n : ℕ) → m ≤ 16 → take (16 - (16 - m)) (drop (16 - m) (to_be_bytes w128 n)) ≡ pack_halves (halves_in (2 * m) n)
+run_bytes m n few =
+    let skipped : ℕ = 16 - m in
+    let all : 2 * (skipped + m) ≡ 32 = omega arith in
+    ap (take (16 - skipped)) (ap (drop skipped) (wide_bytes n ∙ ap (λ (k : ℕ). pack_halves (halves_in k n)) (sym all)) ∙ last_bytes skipped m n)
+    ∙ take_all (16 - skipped) (pack_halves (halves_in (2 * m) n)) (omega (arith, run_length m n))

@@ -1,5 +1,6 @@
 -- Document 01, Packed bodies: the size of a column.
-use Rattle.std.specs.Prelude.{ℕ, ◌+◌, ◌/◌, ◌%◌, ◌<◌, ◌≤◌, List, [], ◌∷◌, Bool, true, false}
+use Rattle.codec.specs.Lists.{max_columns}
+use Rattle.std.specs.Prelude.{length, ℕ, ◌+◌, ◌/◌, ◌%◌, ◌<◌, ◌≤◌, List, [], ◌∷◌, Bool, true, false}
 use Rattle.decimal.specs.declared.image.Sign.{Sign}
 use Rattle.decimal.specs.declared.image.Sign.TheVariants.{Unsigned, Plus, Minus}
 use Rattle.decimal.specs.declared.image.Image.{Image}
@@ -42,3 +43,9 @@ pub record Checked (im : Image) : Type 0 where
 pub data AllChecked : List Image → Type 0 where
   none : AllChecked []
   more : {im : Image} {ims : List Image} → Checked im → AllChecked ims → AllChecked (im ∷ ims)
+
+-- images that a contents can have: 1 to 16, each such an image
+pub record Sound (ims : List Image) : Type 0 where
+  pub all : AllChecked ims
+  pub low : 1 ≤ length ims
+  pub high : length ims ≤ max_columns

@@ -2,10 +2,8 @@
 use Rattle.std.specs.Prelude.{ℕ, zero, suc, ◌+◌, ◌<◌, ◌≤◌, ◌≡◌, List, [], ◌∷◌, ◌++◌, ◌&&◌, length, take, drop, ltb, leb, eqb}
 use Rattle.decimal.specs.declared.image.Image.{Image}
 use Rattle.decimal.specs.Answer.{Answer, done, refused, ◌then◌, pick}
-use Rattle.decimal.specs.Image.{image_bytes, hashes, check_image, read_image}
-use Rattle.codec.specs.declared.contents.Contents.{Contents}
+use Rattle.decimal.specs.Image.{image_bytes, hashes, read_image}
 use Rattle.codec.specs.Lists.{max_columns}
-use Rattle.codec.specs.Columns.{body_size}
 
 -- What a contents is, and its bytes.
 
@@ -78,16 +76,3 @@ read_alone bytes = read_contents bytes then λ table. pick (eqb table.size (leng
 -- a contents can have so many columns: 10 where not
 unfoldable pub check_count : ℕ → Answer (Unit {0})
 check_count count = pick (leb 1 count && leb count max_columns) (done tt) (refused 10 0)
-
--- each of these images can stand in a contents: 1 and 2 from the left
-unfoldable pub check_each : ℕ → List Image → Answer (Unit {0})
-check_each column [] = done tt
-check_each column (im ∷ ims) = check_image column im then λ _. check_each (suc column) ims
-
--- a contents can have these images: 10 for their count, then each from the left
-unfoldable pub check_images : List Image → Answer (Unit {0})
-check_images ims = pick (leb 1 (length ims) && leb (length ims) max_columns) (check_each 0 ims) (refused 10 0)
-
--- the code's contents of a table
-abbrev pub contents_of : Table → Contents
-contents_of table = record { images = record { items = table.images }; size = table.size; body = body_size table.images }

@@ -1,18 +1,17 @@
 -- Document 01, Packed bodies: what a list packs to.
-use Rattle.std.specs.Prelude.{ℕ, suc, ◌+◌, ◌-◌, ◌*◌, ◌^◌, ◌<◌, ◌≤◌, ◌≡◌, List, [], ◌∷◌, ◌++◌, Bool, true, false, length, ltb, eqb}
+use Rattle.std.specs.Prelude.{ℕ, suc, ◌+◌, ◌-◌, ◌≤◌, ◌≡◌, List, [], ◌∷◌, ◌++◌, Bool, true, false, length, ltb, eqb}
 use Rattle.decimal.specs.declared.image.Sign.{Sign}
 use Rattle.decimal.specs.declared.image.Sign.TheVariants.{Unsigned, Plus, Minus}
 use Rattle.decimal.specs.declared.image.Image.{Image}
 use Rattle.decimal.specs.declared.number.Number.{Number}
-use Rattle.decimal.specs.declared.truncation.Truncation.{Truncation}
 use Rattle.decimal.specs.Answer.{Answer, done, refused, ◌then◌, pick}
-use Rattle.decimal.specs.Digits.{precision, digits_of, value_of, packed_of, halves_in, zeros}
+use Rattle.decimal.specs.Digits.{precision, digits_of, zeros}
 use Rattle.decimal.specs.Number.{exponent_limit, normal}
 use Rattle.decimal.specs.Image.{hashes}
-use Rattle.decimal.specs.Truncation.{is_signed, exceeds, exponent_outside, stored_exponent, Truncated, packed_truncation}
+use Rattle.decimal.specs.Truncation.{is_signed, exceeds, exponent_outside, stored_exponent, Truncated, packable, packed_truncation}
 use Rattle.codec.specs.Answers.{within}
 use Rattle.codec.specs.Columns.{pad_count}
-use Rattle.codec.specs.Contents.{IsContents, read_alone, check_images}
+use Rattle.codec.specs.Contents.{IsContents, read_alone}
 use Rattle.codec.specs.Halves.{pack_halves}
 
 -- |x|
@@ -43,6 +42,10 @@ column_halves im t =
 unfoldable pub column_bytes : Image → Truncated → List ℕ
 column_bytes im t = pack_halves (column_halves im t)
 
+-- the column of a truncated number, into a buffer with so much room: 5 as packing refuses it, last 6
+unfoldable pub storing_column : Image → Truncated → ℕ → Answer (List ℕ)
+storing_column im t room = packable 0 im t then λ u. within room (column_bytes im u)
+
 -- the columns in order; 3, 4, 5 from the left
 unfoldable pub pack_columns : ℕ → List Image → List Number → Answer (List ℕ)
 pack_columns column [] ns = done []
@@ -59,13 +62,9 @@ pack_list ims ns = pick (eqb (length ns) (length ims)) (pack_columns 0 ims ns) (
 unfoldable pub body_of : List ℕ → List Number → Answer (List ℕ)
 body_of contents ns = read_alone contents then λ table. pack_list table.images ns
 
--- a list under images that need not be a contents': refused as they are, then as a list under a contents
-unfoldable pub pack_under : List Image → List Number → Answer (List ℕ)
-pack_under ims ns = check_images ims then λ _. pack_list ims ns
-
--- the call that packs under images, into a buffer with so much room
+-- a list under the images of a contents, into a buffer with so much room
 unfoldable pub packing_under : List Image → List Number → ℕ → Answer (List ℕ)
-packing_under ims ns room = pack_under ims ns then within room
+packing_under ims ns room = pack_list ims ns then within room
 
 -- the packing call, into a buffer with so much room
 unfoldable pub packing : List ℕ → List Number → ℕ → Answer (List ℕ)
@@ -114,15 +113,3 @@ pub record PacksUnder (im : Image) (n : Number) : Type 0 where
 pub data AllPack : List Image → List Number → Type 0 where
   none : AllPack [] []
   one : {im : Image} {n : Number} {ims : List Image} {ns : List Number} → PacksUnder im n → AllPack ims ns → AllPack (im ∷ ims) (n ∷ ns)
-
--- the truncation that the code holds, its digits as a whole number
-abbrev pub held_by : Truncation → Truncated
-held_by t = record { negative = t.negative; whole = value_of (halves_in precision t.halves); x = t.x }
-
--- a truncation of which a column can be made: the image has no more # signs than a mantissa has digits, k has no more digits than the image, and
--- x is within its limits
-pub record Held (im : Image) (t : Truncation) : Type 0 where
-  pub size : hashes im ≤ precision
-  pub digits : t.halves ≡ packed_of (digits_of precision (value_of (halves_in precision t.halves)))
-  pub below : value_of (halves_in precision t.halves) < 10 ^ hashes im
-  pub range : t.x ≤ 2 * exponent_limit

@@ -9,7 +9,7 @@ use Rattle.decimal.specs.Truncation.{Truncated, packed_truncation}
 use Rattle.decimal.specs.Remainder.{IsRemainder, cut_off}
 use Rattle.codec.specs.declared.remainders.Packed.{Packed}
 use Rattle.codec.specs.Contents.{IsContents, read_alone}
-use Rattle.codec.specs.Packing.{packing}
+use Rattle.codec.specs.Packing.{packing, packing_under}
 use Rattle.codec.specs.Unpacking.{unpacking}
 
 -- what is cut off the columns' numbers, in order; refused as their packing is
@@ -23,6 +23,10 @@ cut_columns column (im ∷ ims) (n ∷ ns) =
 unfoldable pub packing_remainders : List ℕ → List Number → ℕ → Answer (List Remainder)
 packing_remainders contents ns room =
     packing contents ns room then λ _. (read_alone contents then λ table. cut_columns 0 table.images ns)
+
+-- the remainders of a list that is packed under the images of a contents; refused as packing there is
+unfoldable pub remainders_under : List Image → List Number → ℕ → Answer (List Remainder)
+remainders_under ims ns room = packing_under ims ns room then λ _. cut_columns 0 ims ns
 
 -- what the code gives of a packing: how many bytes were written, and the remainders
 abbrev pub size_of : Packed → ℕ

@@ -1,5 +1,5 @@
 -- Document 01, Packed bodies: reading back.
-use Rattle.std.specs.Prelude.{ℕ, suc, ◌+◌, ◌-◌, ◌*◌, ◌/◌, ◌%◌, ◌^◌, List, [], ◌∷◌, Bool, true, not, Option, Some, None, ◌&&◌, length, take, drop, get_or, ltb, leb, eqb}
+use Rattle.std.specs.Prelude.{ℕ, suc, ◌+◌, ◌-◌, ◌*◌, ◌%◌, ◌^◌, List, [], ◌∷◌, Bool, true, not, Option, Some, None, ◌&&◌, length, take, drop, get_or, ltb, leb, eqb}
 use Rattle.decimal.specs.declared.image.Sign.{Sign}
 use Rattle.decimal.specs.declared.image.Sign.TheVariants.{Unsigned, Plus, Minus}
 use Rattle.decimal.specs.declared.image.Image.{Image}
@@ -10,8 +10,8 @@ use Rattle.decimal.specs.Number.{exponent_limit}
 use Rattle.decimal.specs.Image.{hashes}
 use Rattle.decimal.specs.Truncation.{Truncated, number_of}
 use Rattle.codec.specs.Lists.{any_of}
-use Rattle.codec.specs.Columns.{sign_count, exponent_count, half_count, pad_count, column_size, body_size}
-use Rattle.codec.specs.Contents.{read_alone, check_images}
+use Rattle.codec.specs.Columns.{sign_count, exponent_count, half_count, column_size, body_size}
+use Rattle.codec.specs.Contents.{read_alone}
 use Rattle.codec.specs.Halves.{halves_of}
 
 -- whether all are decimal digits
@@ -102,19 +102,11 @@ unpack_columns column (im ∷ ims) bytes =
 unfoldable pub unpack_body : List Image → List ℕ → Answer (List Number)
 unpack_body ims body = pick (eqb (length body) (body_size ims)) (unpack_columns 0 ims body) (refused 11 0)
 
--- a body under images that need not be a contents': refused as they are, then as a body under a contents
-unfoldable pub unpack_under : List Image → List ℕ → Answer (List Number)
-unpack_under ims body = check_images ims then λ _. unpack_body ims body
-
 -- the unpacking call
 unfoldable pub unpacking : List ℕ → List ℕ → Answer (List Number)
 unpacking contents body = read_alone contents then λ table. unpack_body table.images body
 
 -- What the code's helpers ask and find.
-
--- a column's digits as a whole number stay below this: a column has at most 9 bytes
-abbrev pub run_limit : ℕ
-run_limit = 10 ^ 18
 
 -- the whole number that a whole number and digits behind it make, 7 where one of them is above 9
 unfoldable pub read_on : ℕ → List ℕ → Answer ℕ
@@ -125,15 +117,3 @@ read_on start (d ∷ ds) = pick (ltb d 10) (read_on (start * 10 + d) ds) (refuse
 abbrev pub run_meaning : Option ℕ → Answer ℕ
 run_meaning (Some value) = done value
 run_meaning None = refused 7 0
-
--- the number of a sign half and of all the digits behind it but the padding, as one whole number
-unfoldable pub unpadded_number : ℕ → Image → ℕ → ℕ → Answer Number
-unpadded_number column im sign value =
-    pick im.exponential (parts_number column im sign (value / 100) (value % 100)) (parts_number column im sign value 0)
-
--- and with the padding, which is a 0
-unfoldable pub run_number : ℕ → Image → ℕ → ℕ → Answer Number
-run_number column im sign value =
-    pick (eqb (pad_count im) 0)
-    (unpadded_number column im sign value)
-    (pick (eqb (value % 10) 0) (unpadded_number column im sign (value / 10)) (refused 7 column))

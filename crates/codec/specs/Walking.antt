@@ -5,7 +5,7 @@ use Rattle.decimal.specs.Answer.{Answer, done, refused, pick, meaning}
 use Rattle.codec.specs.declared.walking.Walker.{Walker}
 use Rattle.codec.specs.declared.walking.Stop.{Stop}
 use Rattle.codec.specs.declared.walking.Stop.TheVariants as gives
-use Rattle.codec.specs.declared.walking.Walked.{Walked}
+use Rattle.codec.specs.declared.walking.TextNumbers.{TextNumbers}
 use Rattle.codec.specs.Lists.{max_columns}
 use Rattle.codec.specs.Alpha.{parted}
 use Rattle.codec.specs.Text.{TextParts, LongestForm, text_value, reading_in, legal_length, Beginning, read_texts}
@@ -59,7 +59,7 @@ unfoldable pub walking : List ℕ → ℕ → Walk
 walking text from = numbers_in max_columns 0 from (drop from text)
 
 -- The numbers of a text apart from how they are found: from a place on, the text is cut into text numbers one behind the other, each the
--- longest beginning of what is left that has the form; there are at most 16 of them. (The proofs' CutTheorem: `walking` gives exactly these.)
+-- longest beginning of what is left that has the form; there are at most 16 of them. (The proofs' PiecesTheorem: `walking` gives exactly these.)
 
 -- each case of the code's answer: nothing is refused where the text ends; 8 where no text number begins; a number is refused as its text is,
 -- with its index for the place; 10 where there are more numbers than a list can have
@@ -79,33 +79,33 @@ pub record Foremost (bytes : List ℕ) (size : ℕ) (number : Answer Number) : T
   pub value : text_value parts ≡ number
 
 -- from a number's index and a place on: the numbers, the place where there is none more, and why
-pub data Cut (text : List ℕ) : ℕ → ℕ → List Number → ℕ → Answer (Unit {0}) → Type 0 where
+pub data Pieces (text : List ℕ) : ℕ → ℕ → List Number → ℕ → Answer (Unit {0}) → Type 0 where
   -- the text ends there
-  ends : {index place : ℕ} → length text ≤ place → Cut text index place [] place (done tt)
+  ends : {index place : ℕ} → length text ≤ place → Pieces text index place [] place (done tt)
   -- no text number begins there
-  none : {index place : ℕ} → place < length text → LongestForm (drop place text) 0 → Cut text index place [] place (refused 8 0)
+  none : {index place : ℕ} → place < length text → LongestForm (drop place text) 0 → Pieces text index place [] place (refused 8 0)
   -- one begins there, and 16 stand before it
   full :
       {index place size : ℕ} {number : Answer Number}
       → max_columns ≤ index
       → Foremost (drop place text) size number
-      → Cut text index place [] place (refused 10 0)
+      → Pieces text index place [] place (refused 10 0)
   -- one begins there, and is refused
   stops :
       {index place size number other : ℕ}
       → index < max_columns
       → Foremost (drop place text) size (refused number other)
-      → Cut text index place [] place (refused number index)
+      → Pieces text index place [] place (refused number index)
   -- one begins there, and the others behind it
   more :
       {index place size stop : ℕ} {n : Number} {ns : List Number} {answer : Answer (Unit {0})}
       → index < max_columns
       → Foremost (drop place text) size (done n)
-      → Cut text (suc index) (place + size) ns stop answer
-      → Cut text index place (n ∷ ns) stop answer
+      → Pieces text (suc index) (place + size) ns stop answer
+      → Pieces text index place (n ∷ ns) stop answer
 
 -- the walk that the code gives
-abbrev pub walk_of : Walked → Walk
+abbrev pub walk_of : TextNumbers → Walk
 walk_of w = record { answer = meaning w.answer; numbers = w.numbers.items; place = w.place }
 
 -- The walker.

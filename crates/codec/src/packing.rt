@@ -1,19 +1,20 @@
 // Packing a list of numbers into a body (document 01: Packed bodies).
 ghost use Rattle.std.specs.Prelude.{◌≡◌, true, ◌++◌, ◌+◌, ◌-◌, ◌*◌, ◌≤◌, ltb, length};
 ghost use Rattle.decimal.specs.Answer.{done, meaning, checked_only, pick};
+ghost use Rattle.decimal.specs.CutMeaning.{said_by_cut};
 ghost use Rattle.decimal.specs.Digits.{digits_of, packed_of};
 ghost use Rattle.decimal.specs.Image.{hashes};
 ghost use Rattle.decimal.specs.Number.{exponent_limit};
-ghost use Rattle.decimal.specs.Truncation.{Fit, truncated_to};
+ghost use Rattle.decimal.specs.Truncation.{Fit, truncated_to, packable};
 ghost use Rattle.codec.specs.Answers.{stored_in, sized};
 ghost use Rattle.codec.specs.Columns.{column_size, body_size};
 ghost use Rattle.codec.specs.Alpha.{zero_at};
-ghost use Rattle.codec.specs.Packing.{column_bytes, column_halves, exponent_halves, pack_under, packing, packing_under, pack_columns, AllPack, sign_halves, Held, held_by};
+ghost use Rattle.codec.specs.Packing.{column_bytes, column_halves, exponent_halves, pack_list, storing_column, packing_under, pack_columns, AllPack, sign_halves};
 
 use crate::columns::{column_size, half_count};
-use crate::contents::{body_size, check_images, read_alone};
+use crate::contents::Contents;
 use crate::halves::write_run;
-use decimal::{EXPONENT_LIMIT, Image, Number, Refusal, Sign, Truncation, fit_packed, truncate};
+use decimal::{CheckedImage, Cut, EXPONENT_LIMIT, Fitting, Image, Number, Reason, Refusal, Sign};
 
 // The size |x| of a stored exponent that is held as x + EXPONENT_LIMIT.
 pub(crate) fn exponent_size(x: usize) -> u8
@@ -40,66 +41,85 @@ fn exponent_run(x: usize) -> u64
     (size / 10) << 4 | (size % 10)
 }
 
-// A number truncated under an image, of which a column and a text can be made.
-#[derive(Clone, Copy)]
-pub(crate) struct HeldNumber {
-    pub(crate) image: Image,
-    pub(crate) truncation: Truncation,
-    ghost held: { Held image truncation },
+// The sign half of a column, if it has one, and its digits, as one run of half bytes.
+#[tactic(auto, using(crate::proofs::RunLaws::run_digits), unfolding(crate::specs::Packing::sign_halves))]
+fn signed_run(cut: &Cut) -> u64
+    ensures { result ≡ packed_of (sign_halves cut.now.image.sign (said_by_cut cut.now) ++ digits_of (hashes cut.now.image) (said_by_cut cut.now).whole) }
+{
+    if cut.image.sign == Sign::Unsigned {
+        cut.halves
+    } else {
+        let half = u64::from(sign_half(cut.negative, cut.x));
+        (half << (4 * cut.image.hashes())) | cut.halves
+    }
 }
 
-impl HeldNumber {
-    // The sign half of a column, if it has one, and its digits, as one run of half bytes.
-    #[tactic(auto, using(crate::proofs::RunLaws::run_digits), unfolding(crate::specs::Packing::sign_halves))]
-    fn signed_run(&self) -> u64
-        ensures { result ≡ packed_of (sign_halves self.now.image.sign (held_by self.now.truncation) ++ digits_of (hashes self.now.image) (held_by self.now.truncation).whole) }
-    {
-        let truncation = self.truncation;
-        if self.image.sign == Sign::Unsigned {
-            truncation.halves
-        } else {
-            let half = u64::from(sign_half(truncation.negative, truncation.x));
-            (half << (4 * self.image.hashes())) | truncation.halves
-        }
+// A column as one run of half bytes: the sign half and the digits, then two digits of |x| if it is exponential, then a zero half if
+// their count is odd.
+pub(crate) fn column_run(cut: &Cut) -> u128
+    ensures { result ≡ packed_of (column_halves cut.now.image (said_by_cut cut.now)) }
+{
+    let mut run = u128::from(signed_run(cut));
+    if cut.image.exponential {
+        run = (run << 8) | u128::from(exponent_run(cut.x));
     }
-
-    // A column as one run of half bytes: the sign half and the digits, then two digits of |x| if it is exponential, then a zero half if
-    // their count is odd.
-    fn column_run(&self) -> u64
-        ensures { result ≡ packed_of (column_halves self.now.image (held_by self.now.truncation)) }
-    {
-        let mut run = self.signed_run();
-        if self.image.exponential {
-            run = (run << 8) | exponent_run(self.truncation.x);
-        }
-        run << (4 * (half_count(self.image) % 2))
-    }
+    run << (4 * (half_count(cut.image) % 2))
 }
 
 // Writes a column, which is the whole target.
-#[tactic(auto, using(crate::proofs::FitLaws::truncation_ok, crate::proofs::FitLaws::truncation_held_by, crate::proofs::RunLaws::run_column, crate::proofs::RunLaws::run_room))]
-fn write_column(image: Image, number: Number, target: &mut [u8])
-    requires { (Fit image number) × (length target.old ≡ column_size image) }
-    ensures { target.new ≡ column_bytes image (truncated_to image number) }
+fn write_column(cut: &Cut, target: &mut [u8])
+    requires { length target.old ≡ column_size cut.now.image }
+    ensures { target.new ≡ column_bytes cut.now.image (said_by_cut cut.now) }
 {
-    let truncation = truncate(image, number, 0).unwrap();
-    let held = HeldNumber { image, truncation };
-    write_run(held.column_run(), target);
+    write_run(column_run(cut), target);
 }
 
-// Whether numbers can be packed, each under its image; refused from the left with 3, 4, 5 and the column.
-#[tactic(auto, using(crate::proofs::BodyLaws::columns_turn, crate::proofs::BodyLaws::columns_refused), unfolding(decimal::specs::Answer::checked_only, crate::specs::Packing::pack_columns))]
-fn check_numbers(images: &[Image], numbers: &[Number]) -> Result<(), Refusal>
-    ensures { meaning result ≡ checked_only (pack_columns 0 images.now numbers.now) }
+// Whether a cut number can be a column: refused with 5 where x is negative under an image without a sign.
+#[tactic(auto, unfolding(decimal::specs::Answer::checked_only, decimal::specs::Truncation::packable))]
+fn check_packable(cut: &Cut) -> Result<(), Refusal>
+    ensures { meaning result ≡ checked_only (packable 0 cut.now.image (said_by_cut cut.now)) }
 {
-    for (column, (image, number)) in images.iter().zip(numbers).enumerate() {
-        fit_packed(*image, *number, column)?;
+    if cut.image.sign == Sign::Unsigned && cut.x < EXPONENT_LIMIT {
+        return Err(Refusal {
+            reason: Reason::ExponentOutside,
+            place: 0,
+        });
     }
     Ok(())
 }
 
-// Writes the columns of numbers that can be packed, one behind the other. They go by a place, since a proof knows no byte of parts that a
-// loop takes off with split_at_mut.
+// Writes a cut number as a column at a buffer's start, and gives its size; the bytes behind it stay.
+// Refused with 5 as packing refuses it, last 6; then no byte changes.
+pub fn store_column(cut: &Cut, buffer: &mut [u8]) -> Result<usize, Refusal>
+    ensures answer { meaning result ≡ sized (storing_column cut.now.image (said_by_cut cut.now) (length buffer.old)) }
+    ensures bytes { buffer.new ≡ stored_in (storing_column cut.now.image (said_by_cut cut.now) (length buffer.old)) buffer.old }
+{
+    check_packable(cut)?;
+    let width = column_size(cut.image);
+    if buffer.len() < width {
+        return Err(Refusal::NO_ROOM);
+    }
+    write_column(cut, &mut buffer[..width]);
+    Ok(width)
+}
+
+// Whether a list can be packed under a contents: refused as packing it there is, but for the room; no half byte is made.
+#[tactic(auto, using(crate::proofs::BodyLaws::columns_turn, crate::proofs::BodyLaws::columns_refused, crate::proofs::BodyLaws::list_other, crate::proofs::BodyLaws::list_each), unfolding(decimal::specs::Answer::checked_only, crate::specs::Packing::pack_columns))]
+pub fn check_list(contents: &Contents, numbers: &[Number]) -> Result<(), Refusal>
+    ensures { meaning result ≡ checked_only (pack_list contents.now.images numbers.now) }
+{
+    let images = contents.images();
+    if numbers.len() != images.len() {
+        return Err(Refusal::WRONG_COUNT);
+    }
+    for (column, (image, number)) in images.iter().zip(numbers).enumerate() {
+        let checked = CheckedImage { image: *image };
+        checked.fitting_packed(*number, column)?;
+    }
+    Ok(())
+}
+
+// Writes the columns of numbers that can be packed, one behind the other.
 fn write_columns(images: &[Image], numbers: &[Number], body: &mut [u8])
     requires { (AllPack images.now numbers.now) × (length body.old ≡ body_size images.now) }
     ensures { pack_columns 0 images.now numbers.now ≡ done body.new }
@@ -107,44 +127,26 @@ fn write_columns(images: &[Image], numbers: &[Number], body: &mut [u8])
     let mut at = 0;
     for (image, number) in images.iter().zip(numbers) {
         let end = at + column_size(*image);
-        write_column(*image, *number, &mut body[at..end]);
+        let fitting = Fitting {
+            image: *image,
+            number: *number,
+        };
+        write_column(&fitting.cut(), &mut body[at..end]);
         at = end;
     }
 }
 
-// Whether a list can be packed under images: refused as packing it there is, but for the room.
-#[tactic(auto, using(crate::proofs::BodyLaws::list_images, crate::proofs::BodyLaws::list_other, crate::proofs::BodyLaws::list_each))]
-pub fn check_list(images: &[Image], numbers: &[Number]) -> Result<(), Refusal>
-    ensures { meaning result ≡ checked_only (pack_under images.now numbers.now) }
+// Packs a list under a contents into a buffer: the body stands at its start, and the bytes behind it stay.
+// Refused with 10, items from the left with 3, 4, 5 and the column, last 6; then no byte changes.
+pub fn pack(contents: &Contents, numbers: &[Number], buffer: &mut [u8]) -> Result<usize, Refusal>
+    ensures answer { meaning result ≡ sized (packing_under contents.now.images numbers.now (length buffer.old)) }
+    ensures bytes { buffer.new ≡ stored_in (packing_under contents.now.images numbers.now (length buffer.old)) buffer.old }
 {
-    check_images(images)?;
-    if numbers.len() != images.len() {
-        return Err(Refusal::WRONG_COUNT);
-    }
-    check_numbers(images, numbers)
-}
-
-// Packs a list under images into a buffer: the body stands at its start, and the bytes behind it stay.
-// Refused as the images are, then with 10, items from the left with 3, 4, 5 and the column, last 6; then no byte changes.
-pub fn pack_under(images: &[Image], numbers: &[Number], buffer: &mut [u8]) -> Result<usize, Refusal>
-    ensures answer { meaning result ≡ sized (packing_under images.now numbers.now (length buffer.old)) }
-    ensures bytes { buffer.new ≡ stored_in (packing_under images.now numbers.now (length buffer.old)) buffer.old }
-{
-    check_list(images, numbers)?;
-    let size = body_size(images);
+    check_list(contents, numbers)?;
+    let size = contents.body_size();
     if buffer.len() < size {
         return Err(Refusal::NO_ROOM);
     }
-    write_columns(images, numbers, &mut buffer[..size]);
+    write_columns(contents.images(), numbers, &mut buffer[..size]);
     Ok(size)
-}
-
-// Packs a list under a contents lent alone into a buffer, as pack_under does; refused first as the contents is.
-#[tactic(auto, using(decimal::proofs::AnswerLaws::mapped_refused_back, crate::proofs::UnderLaws::packing_lent, crate::proofs::BodyLaws::packing_contents), unfolding(crate::specs::Answers::stored_in, crate::specs::Answers::sized))]
-pub fn pack(contents: &[u8], numbers: &[Number], buffer: &mut [u8]) -> Result<usize, Refusal>
-    ensures answer { meaning result ≡ sized (packing contents.now numbers.now (length buffer.old)) }
-    ensures bytes { buffer.new ≡ stored_in (packing contents.now numbers.now (length buffer.old)) buffer.old }
-{
-    let table = read_alone(contents)?;
-    pack_under(&table.images, numbers, buffer)
 }

@@ -19,7 +19,7 @@ ghost use Rattle.codec.specs.Text.{
 };
 
 use crate::columns::{sign_count, signed_exponent};
-use decimal::{EXPONENT_LIMIT, Number, PRECISION, Reason, Refusal, Sign, leading_run, sign_of};
+use decimal::{EXPONENT_LIMIT, Number, PRECISION, Reason, Refusal, Sign, leading_run};
 
 // The most digits of an exponent.
 const EXPONENT_DIGITS: usize = 2;
@@ -27,9 +27,9 @@ const EXPONENT_DIGITS: usize = 2;
 // The longest beginning of a text that is a text number: its length, and its number or 5; where there is none, length 0 and 8.
 // The length stands beside the answer and not in it, since a number that is refused with 5 uses bytes too.
 #[derive(Clone, Copy, Debug, PartialEq, Eq, Hash)]
-pub struct Reading {
-    pub used: usize,
-    pub number: Result<Number, Refusal>,
+pub(crate) struct Reading {
+    pub(crate) used: usize,
+    pub(crate) number: Result<Number, Refusal>,
 }
 
 // The number that a text begins with, and the bytes used.
@@ -100,7 +100,7 @@ fn leading_sign(text: &[u8]) -> Sign
     ensures { result ≡ leading_sign text.now }
 {
     match text {
-        [first, ..] => sign_of(*first),
+        [first, ..] => Sign::of_byte(*first),
         [] => Sign::Unsigned,
     }
 }
@@ -262,7 +262,6 @@ pub fn convert(text: &[u8]) -> Result<Number, Refusal>
     ensures { meaning result ≡ convert_text text.now }
 {
     let reading = read_text(text);
-    // By name, for the edits rest_ignored and five_before_eight.
     let is_left_over = reading.used != text.len();
     if is_left_over {
         Err(NO_NUMBER)

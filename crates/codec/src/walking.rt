@@ -1,13 +1,15 @@
 // Walking a text: a small record that refers to the lent text, and reading all text numbers of a text (document 01: Record file).
 ghost use Rattle.std.specs.Prelude.{◌≡◌, drop};
-ghost use Rattle.codec.specs.Text.{reading_meaning, reading_in, legal_length};
+ghost use Rattle.decimal.specs.Answer.{meaning};
+ghost use Rattle.codec.specs.Text.{reading_meaning, reading_in, legal_length, read_text};
 ghost use Rattle.codec.specs.Walking.{number_place, stop_before, walk_of, walking, ahead_of, moved_on, skipped_on};
 
 use crate::lists::Numbers;
-use crate::text::{NO_READING, Reading, read_text};
+use crate::text::{NO_READING, Reading, TextNumber, read_text};
 use decimal::{Refusal, leading_run};
 
-// A walk over a lent text: the text, and the place where it goes on, document 01's form.
+// A walk over a lent text: the text, and the place where it goes on, document 01's form. It is for callers in Rattle who take a text number
+// by number, and skip the words between them.
 #[derive(Clone, Copy, Debug, PartialEq, Eq, Hash)]
 pub struct Walker<'a> {
     text: &'a [u8],
@@ -25,7 +27,7 @@ pub enum Stop {
 // The text numbers that were read in order, and where and why reading stopped: a refused number's refusal, or another reason.
 // The list stands beside the answer and not in it, since the numbers before a refused one are given too.
 #[derive(Clone, Debug, PartialEq, Eq, Hash, Drop)]
-pub struct Walked {
+pub struct TextNumbers {
     pub answer: Result<Stop, Refusal>,
     pub numbers: Numbers,
     pub place: usize,
@@ -83,11 +85,11 @@ fn why_stopped(text: &[u8], place: usize, used: usize) -> Stop
     }
 }
 
-// All text numbers of a text from a place on, in order, up to COLUMNS. A number refused with 5 has its index for its place.
+// All text numbers of a text from a place on, in order, up to MAX_COLUMNS. A number refused with 5 has its index for its place.
 // The loop goes by places, of which the last is part of the answer, and may lie past the end: a Walker would go on behind a number that
 // is not taken.
 #[tactic(auto, using(crate::proofs::WalkLaws::used_inside, crate::proofs::WalkLaws::collecting_starts, crate::proofs::WalkLaws::collecting_turns))]
-pub fn read_text_numbers(text: &[u8], from: usize) -> Walked
+pub fn read_text_numbers(text: &[u8], from: usize) -> TextNumbers
     ensures { walk_of result ≡ walking text.now from }
 {
     let mut numbers = Numbers::new();
@@ -95,7 +97,7 @@ pub fn read_text_numbers(text: &[u8], from: usize) -> Walked
     loop {
         let reading = read_at(text, place);
         if reading.used == 0 || numbers.is_full() {
-            return Walked {
+            return TextNumbers {
                 answer: Ok(why_stopped(text, place, reading.used)),
                 numbers,
                 place,
@@ -104,7 +106,7 @@ pub fn read_text_numbers(text: &[u8], from: usize) -> Walked
         match reading.number {
             Ok(number) => numbers.push(number),
             Err(refusal) => {
-                return Walked {
+                return TextNumbers {
                     answer: Err(Refusal {
                         reason: refusal.reason,
                         place: numbers.len(),
@@ -133,14 +135,20 @@ impl<'a> Walker<'a> {
         self.place
     }
 
-    // The next text number from the walker's place, with the bytes used; the walker is moved on behind them.
-    #[tactic(auto, using(crate::proofs::TextLaws::read_used_lem, crate::proofs::WalkLaws::moved_fits))]
-    pub fn next_number(&mut self) -> Reading
-        ensures { (reading_meaning result ≡ reading_in (ahead_of self.old)) × (self.new ≡ moved_on self.old) }
+    // The next text number from the walker's place, with the bytes used: refused with 8 where there is none, with 5 where its exponent is
+    // outside its limits. The walker is moved on behind the bytes of a number, one that is refused with 5 too.
+    #[tactic(auto, using(crate::proofs::TextLaws::read_used_lem, crate::proofs::TextLaws::reads_number, crate::proofs::TextLaws::reads_refused, crate::proofs::WalkLaws::moved_fits))]
+    pub fn next_number(&mut self) -> Result<TextNumber, Refusal>
+        ensures answer { meaning result ≡ read_text (ahead_of self.old) }
+        ensures moved { self.new ≡ moved_on self.old }
     {
         let reading = read_at(self.text, self.place);
         self.place += reading.used;
-        reading
+        let number = reading.number?;
+        Ok(TextNumber {
+            number,
+            used: reading.used,
+        })
     }
 
     // Moves the walker on to the next place where a text number begins.

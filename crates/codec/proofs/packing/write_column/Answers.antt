@@ -1,8 +1,14 @@
 -- `write_column` meets its contract: the run of the whole column makes its bytes. Assumes nothing.
-use Rattle.std.proofs.Common.{sym, ap, ◌∙◌}
-use Rattle.decimal.specs.Answer.{meaning}
-use Rattle.codec.proofs.FitLaws.{truncation_held}
+use mathlib.Core.Path.{◌∙◌}
+use native.Mathlib.Omega.{arith}
+use Rattle.decimal.specs.CutMeaning.{said_by_cut}
+use Rattle.codec.proofs.RunLaws.{run_column, run_room}
 use Rattle.codec.proofs.packing.write_column.Goals as goal
 
-pub invariant_of-held : goal.invariant_of-held
-invariant_of-held c = record { held = truncation_held c.args.image c.args.number c.requires.0 (sym (ap meaning c.unwrap-truncation.ensures) ∙ c.truncate.ensures) }
+pub write_run-requires : goal.write_run-requires
+write_run-requires c =
+    let cut = c.args.cut.now in omega (arith, c.requires, run_room cut.image (said_by_cut cut) cut.made.size)
+
+pub returns : goal.returns
+returns c =
+    let cut = c.args.cut.now in c.write_run.ensures ∙ run_column cut.image (said_by_cut cut) c.requires c.column_run.ensures

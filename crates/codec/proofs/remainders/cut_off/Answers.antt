@@ -1,9 +1,8 @@
--- `cut_off` meets its contract: a number that can be packed has a remainder. Assumes nothing.
-use Rattle.std.proofs.Common.{length, ap, sym, ◌∙◌, ⊎_elim, inl, inr, arith}
-use Rattle.decimal.specs.Answer.{done, meaning}
-use Rattle.decimal.proofs.AnswerLaws.{done_ok}
+-- `cut_off` meets its contract: what the truncation of each number that packs leaves. Assumes nothing.
+use Rattle.std.proofs.Common.{length, ap, ◌∙◌, ⊎_elim, inl, inr, arith}
+use Rattle.decimal.specs.Answer.{done}
 use Rattle.codec.proofs.PackLaws.{packs_length}
-use Rattle.codec.proofs.RemainderLaws.{packs_left, left_length, leaving_starts, left_next, leaving_turns, leaving_ends}
+use Rattle.codec.proofs.RemainderLaws.{packs_left, left_length, leaving_starts, left_fits, leaving_turns, leaving_ends}
 use Rattle.codec.proofs.remainders.cut_off.Goals as goal
 
 pub loop-image-init : goal.loop-image-init
@@ -14,10 +13,10 @@ loop-image-init c =
     let same = c.into_iter-image-iterator.ensures.into_iter_gives in
     rw c.new-remainders.ensures (leaving_starts c.requires.1 (cc) (cc))
 
-pub unwrap-requires : goal.unwrap-requires
-unwrap-requires c =
+pub invariant_of-fitting : goal.invariant_of-fitting
+invariant_of-fitting c =
     let step = c.in-Some.ensures.steps in
-    done_ok c.remainder_of.result (c.remainder_of.ensures ∙ left_next c.loop-image.invariant step.0 step.1)
+    record { fits = left_fits c.loop-image.invariant step.0 step.1 }
 
 pub push-requires : goal.push-requires
 push-requires c =
@@ -28,7 +27,7 @@ push-requires c =
 pub loop-image-preserved : goal.loop-image-preserved
 loop-image-preserved c =
     let step = c.in-Some.ensures.steps in
-    leaving_turns c.loop-image.invariant step.0 step.1 (sym (ap meaning c.unwrap.ensures) ∙ c.remainder_of.ensures) c.push.ensures.items
+    leaving_turns c.loop-image.invariant step.0 step.1 c.remainder.ensures c.push.ensures.items
 
 pub returns : goal.returns
 returns c =
