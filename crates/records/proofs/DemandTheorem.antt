@@ -27,15 +27,15 @@ use Rattle.codec.proofs.PacksTheorem.{packs_read, packs_contents}
 use Rattle.codec.proofs.AlphaForm.{alpha_back}
 use Rattle.codec.proofs.OrderTheorem.{contents_order, contents_equality}
 use Rattle.codec.proofs.ReadBackTheorem.{contents_read_back}
-use Rattle.records.specs.declared.fields.Element.TheVariants as element
-use Rattle.records.specs.Scanning.{field_length}
-use Rattle.records.specs.Fields.{shown_in, number_marked, number_in, or_field, spilled_by, element_bytes, element_spills, read_field}
-use Rattle.records.specs.Printing.{max_line, literals, first_field, behind_field, has_field, Print, and_then, one_field, print_from}
-use Rattle.records.specs.Printing.{check_fields, check_element, check_elements, check_some, check_counts, printed}
+use Rattle.records.specs.declared.lines.fields.Element.TheVariants as element
+use Rattle.records.specs.Lines.Scanning.{field_length}
+use Rattle.records.specs.Lines.Fields.{shown_in, number_marked, number_in, or_field, spilled_by, element_bytes, element_spills, read_field}
+use Rattle.records.specs.Lines.Printing.{max_line, literals, first_field, behind_field, has_field, Print, and_then, one_field, print_from}
+use Rattle.records.specs.Lines.Printing.{check_fields, check_element, check_elements, check_some, check_counts, printed}
 use Rattle.records.specs.Demand.{print_field, print_fields, read_fields, NoneSpilled, ReadBack, Ordered, Demand3}
 use Rattle.records.specs.Demand as demand
-use Rattle.records.proofs.FieldTheorem.{image_field, image_whole}
-use Rattle.records.proofs.FieldBackTheorem.{field_back}
+use Rattle.records.proofs.LineProofs.FieldTheorem.{image_field, image_whole}
+use Rattle.records.proofs.LineProofs.FieldBackTheorem.{field_back}
 
 -- A line that is one field.
 

@@ -10,10 +10,10 @@ use Rattle.decimal.specs.declared.number.Number.{Number}
 use Rattle.decimal.specs.Answer.{done}
 use Rattle.codec.specs.Text.{read_text, read_texts}
 use Rattle.codec.proofs.ReadingTheorem.{whole_text, texts_whole}
-use Rattle.records.specs.declared.marks.Marks.{Marks}
-use Rattle.records.specs.Marks.{without_marks}
-use Rattle.records.specs.Fields.{read_marked}
-use Rattle.records.specs.Printing.{Print}
+use Rattle.records.specs.declared.lines.marks.Marks.{Marks}
+use Rattle.records.specs.Lines.Marks.{without_marks}
+use Rattle.records.specs.Lines.Fields.{read_marked}
+use Rattle.records.specs.Lines.Printing.{Print}
 use Rattle.records.specs.Demand.{read_fields, ReadBack}
 use Rattle.records.specs.WholeRead.{field_texts, UsesWhole}
 

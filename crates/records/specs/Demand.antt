@@ -13,9 +13,9 @@ use Rattle.codec.specs.Unpacking.{unpacking}
 use Rattle.codec.specs.Order.{AllUnsignedFixed, truncated_magnitudes, FirstSmaller, Truncations}
 use Rattle.codec.specs.Alpha.{alpha_texts}
 use Rattle.codec.specs.Text.{read_texts}
-use Rattle.records.specs.declared.fields.Element.TheVariants as element
-use Rattle.records.specs.Fields.{read_field}
-use Rattle.records.specs.Printing.{Print, printed}
+use Rattle.records.specs.declared.lines.fields.Element.TheVariants as element
+use Rattle.records.specs.Lines.Fields.{read_field}
+use Rattle.records.specs.Lines.Printing.{Print, printed}
 
 -- Print fields: "A column's print field is its image printed as the only field of a line without literal bytes, its number being the
 -- only element; it is read back by dropping blanks and commas and converting the whole of what is left."

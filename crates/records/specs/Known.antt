@@ -13,13 +13,13 @@ use Rattle.codec.specs.Halves.{pack_halves, halves_of}
 use Rattle.codec.specs.Packing.{exponent_size, sign_half, sign_halves, exponent_halves, column_halves, column_bytes, pack_columns, pack_list, body_of}
 use Rattle.codec.specs.Unpacking.{all_digits, all_zero, sign_part, digit_part, exponent_part, pad_part, said_by, breaks_rules, as_half, parts_number, halves_number, unpack_column, unpack_columns, unpack_body, unpacking}
 use Rattle.codec.specs.Alpha.{blank_byte, exponent_byte, digit_bytes, sign_text, fraction_text, exponent_text, alpha_text, alpha_under, alpha_of}
-use Rattle.records.specs.declared.fields.Element.TheVariants as element
-use Rattle.records.specs.Scanning.{longest_from, field_length}
-use Rattle.records.specs.Marks.{with_decimal}
-use Rattle.records.specs.Fields.{sign_byte_of, fill_byte, fill_next, fill_bytes, shown_marked, number_marked, or_field, spilled_by, element_bytes}
-use Rattle.records.specs.Fields.{element_spills}
-use Rattle.records.specs.Printing.{literals, first_field, behind_field, has_field, Print, and_then, one_field, print_from, check_fields}
-use Rattle.records.specs.Printing.{check_element, check_elements, check_some, check_counts, printed}
+use Rattle.records.specs.declared.lines.fields.Element.TheVariants as element
+use Rattle.records.specs.Lines.Scanning.{longest_from, field_length}
+use Rattle.records.specs.Lines.Marks.{with_decimal}
+use Rattle.records.specs.Lines.Fields.{sign_byte_of, fill_byte, fill_next, fill_bytes, shown_marked, number_marked, or_field, spilled_by, element_bytes}
+use Rattle.records.specs.Lines.Fields.{element_spills}
+use Rattle.records.specs.Lines.Printing.{literals, first_field, behind_field, has_field, Print, and_then, one_field, print_from, check_fields}
+use Rattle.records.specs.Lines.Printing.{check_element, check_elements, check_some, check_counts, printed}
 
 -- What a row gives: the number whole × 10^up / 10^down, negative or not, and the bytes of an image.
 

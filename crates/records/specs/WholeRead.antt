@@ -4,8 +4,8 @@ use Rattle.std.specs.Prelude.{ℕ, List, [], ◌∷◌}
 use Rattle.decimal.specs.declared.image.Image.{Image}
 use Rattle.decimal.specs.declared.number.Number.{Number}
 use Rattle.codec.specs.Text.{ReadWhole}
-use Rattle.records.specs.Marks.{document_marks, without_marks}
-use Rattle.records.specs.Printing.{Print}
+use Rattle.records.specs.Lines.Marks.{document_marks, without_marks}
+use Rattle.records.specs.Lines.Printing.{Print}
 use Rattle.records.specs.Demand.{ReadBack}
 
 -- the texts of print fields

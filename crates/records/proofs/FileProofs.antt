@@ -1,0 +1,27 @@
+-- The laws of record files, from the lowest up.
+pub mod EnterLaws
+pub mod EnterTheorem
+pub mod EntryLaws
+pub mod LineBodyLaws
+pub mod FileLaws
+pub mod HeldLaws
+pub mod BadLineTheorem
+pub mod BodiesLaws
+pub mod RefusalLaws
+pub mod FileTheorem
+pub mod ReplaceTheorem
+pub mod ReserveLaws
+pub mod ReserveTheorem
+pub mod ReserveRefusals
+pub mod WholeLengthLaws
+pub mod WholeLengthTheorem
+pub mod RelistTheorem
+pub mod ReportLaws
+pub mod RecordLaws
+pub mod RecordLinesLaws
+pub mod CheckedLaws
+pub mod TextLinesTheorem
+pub mod JoinedLaws
+pub mod TextLineTheorem
+pub mod ListingLaws
+pub mod ListingTheorem

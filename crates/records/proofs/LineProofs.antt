@@ -1,0 +1,22 @@
+-- The laws of print lines, from the lowest up.
+pub mod ScanLaws
+pub mod FieldTails
+pub mod FieldRuns
+pub mod FieldTheorem
+pub mod MarkLaws
+pub mod FieldLaws
+pub mod ReadFieldLaws
+pub mod StrayLaws
+pub mod FillLaws
+pub mod FieldBackTheorem
+pub mod FieldRuleTheorem
+pub mod CommaTheorem
+pub mod CheckLaws
+pub mod LineFieldLaws
+pub mod ForecastTheorem
+pub mod SpilledTheorem
+pub mod PrintLaws
+pub mod BoundLaws
+pub mod PlaceLaws
+pub mod PrintBufferLaws
+pub mod PrintCallLaws

@@ -1,6 +1,0 @@
--- `finding::field_at` meets its contract: what was scanned, with the sign that the field begins with. Assumes nothing.
-use Rattle.records.proofs.FindLaws.{field_made}
-use Rattle.records.proofs.finding.field_at.Goals as goal
-
-pub returns : goal.returns
-returns c = field_made c.args.bytes.now c.args.at c.requires.1 c.requires.2 c.sign_of.ensures
