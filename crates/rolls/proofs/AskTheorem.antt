@@ -21,65 +21,50 @@ use Rattle.decimal.proofs.NumberLaws.{check_normal}
 use Rattle.codec.specs.Contents.{Table}
 use Rattle.codec.specs.Lists.{no_image}
 use Rattle.codec.specs.Order.{UnsignedFixed}
-use Rattle.codec.specs.Unpacking.{unpack_body}
-use Rattle.records.specs.Files.{read_file, record_count, bodies_in, shown_part}
-use Rattle.records.proofs.FileTheorem.{record_at}
-use Rattle.records.proofs.BodiesLaws.{records_count}
+use Rattle.records.specs.Files.RecordFile.{read_file, record_count, bodies_in, shown_part}
+use Rattle.records.proofs.FileProofs.FileTheorem.{record_at}
+use Rattle.records.proofs.FileProofs.BodiesLaws.{records_count}
 use Rattle.rolls.specs.Falling.{NeverFall, fall}
-use Rattle.rolls.specs.Searching.{search_of, max_positions, keys_of, keys_in, Search, found, check_count, check_numbers, check_page, searching}
-use Rattle.rolls.specs.Finding.{Finds, HasKey, Askable}
+use Rattle.rolls.specs.Searching.{search_of, max_positions, first_columns_of, first_columns_in, Search, found, check_count, check_numbers, check_page, searching}
+use Rattle.rolls.specs.Finding.{Finds, HasFirstColumn, Askable}
 use Rattle.rolls.proofs.FallTheorem.{fall_exactly}
 use Rattle.rolls.proofs.FindTheorem.{finds}
+use Rattle.rolls.proofs.FirstColumnLaws.{first_columns_view}
 use Rattle.rolls.proofs.PageLaws.{passed, kind_told, kind_fine, all_normal, page_fine}
 use Rattle.rolls.proofs.SearchLaws.{page_taken, search_done}
 
 -- The parts.
 
--- the keys of records: that of the first, and those of the others
-pub record KeysStep (ims : List Image) (b : List ℕ) (bs : List (List ℕ)) (keys : List Number) : Type 0 where
-  pub numbers : List Number
-  pub reads : unpack_body ims b ≡ done numbers
-  pub others : List Number
-  pub rest : keys_of ims bs ≡ done others
-  pub joined : get_or numbers 0 zero_number ∷ others ≡ keys
-
-pub keys_view : (ims : List Image) (b : List ℕ) (bs : List (List ℕ)) {keys : List Number} → keys_of ims (b ∷ bs) ≡ done keys → KeysStep ims b bs keys
-unfolding keys_of
-keys_view ims b bs h =
-    let one = then_done (unpack_body ims b) (λ (ns : List Number). (keys_of ims bs then λ ks. done (get_or ns 0 zero_number ∷ ks))) h in
-    let two = then_done (keys_of ims bs) (λ (ks : List Number). done (get_or one.value 0 zero_number ∷ ks)) one.second in
-    record { numbers = one.value; reads = one.first; others = two.value; rest = two.first; joined = done_same two.second }
-
--- a key for each record
-keys_count : (ims : List Image) (bs : List (List ℕ)) {keys : List Number} → keys_of ims bs ≡ done keys → length keys ≡ length bs
-unfolding keys_of
-keys_count ims [] h = ap length (sym (done_same h))
-keys_count ims (b ∷ bs) h = let v = keys_view ims b bs h in ap length (sym v.joined) ∙ ap suc (keys_count ims bs v.rest)
+-- a first column for each record
+first_columns_count : (ims : List Image) (bs : List (List ℕ)) {columns : List Number} → first_columns_of ims bs ≡ done columns → length columns ≡ length bs
+unfolding first_columns_of
+first_columns_count ims [] h = ap length (sym (done_same h))
+first_columns_count ims (b ∷ bs) h = let v = first_columns_view ims b bs h in ap length (sym v.joined) ∙ ap suc (first_columns_count ims bs v.rest)
 
 -- that of its body
-keys_each :
-    (ims : List Image) (bs : List (List ℕ)) {keys : List Number}
-    → keys_of ims bs ≡ done keys
+first_columns_each :
+    (ims : List Image) (bs : List (List ℕ)) {columns : List Number}
+    → first_columns_of ims bs ≡ done columns
     → (r : ℕ)
     → r < length bs
-    → HasKey ims (get_or bs r []) (get_or keys r zero_number)
-keys_each ims [] h r l = absurd (omega arith)
-keys_each ims (b ∷ bs) h zero l =
-    let v = keys_view ims b bs h in
+    → HasFirstColumn ims (get_or bs r []) (get_or columns r zero_number)
+first_columns_each ims [] h r l = absurd (omega arith)
+first_columns_each ims (b ∷ bs) h zero l =
+    let v = first_columns_view ims b bs h in
     record { numbers = v.numbers; reads = v.reads; first = ap (λ (ks : List Number). get_or ks 0 zero_number) (sym v.joined) }
-keys_each ims (b ∷ bs) h (suc r) l =
-    let v = keys_view ims b bs h in
-    subst (λ (ks : List Number). HasKey ims (get_or bs r []) (get_or ks (suc r) zero_number)) v.joined (keys_each ims bs v.rest r (omega arith))
+first_columns_each ims (b ∷ bs) h (suc r) l =
+    let v = first_columns_view ims b bs h in
+    subst (λ (ks : List Number). HasFirstColumn ims (get_or bs r []) (get_or ks (suc r) zero_number)) v.joined (first_columns_each ims bs v.rest r (omega arith))
 
-module _ (table : Table) (file : List ℕ) {keys : List Number} (h : keys_in table file ≡ done keys) where
-  keys_records : length keys ≡ record_count table file
-  keys_records = keys_count table.images (bodies_in table file) h ∙ records_count table file
+module _ (table : Table) (file : List ℕ) {columns : List Number} (h : first_columns_in table file ≡ done columns) where
+  first_columns_records : length columns ≡ record_count table file
+  first_columns_records = first_columns_count table.images (bodies_in table file) h ∙ records_count table file
 
-  keys_shown :
-      read_file file ≡ done table → (r : ℕ) → r < record_count table file → HasKey table.images (shown_part file r) (get_or keys r zero_number)
-  keys_shown reads r l =
-      subst (λ (body : List ℕ). HasKey table.images body (get_or keys r zero_number)) (sym (record_at file r reads l))
-      (keys_each table.images (bodies_in table file) h r (omega (arith, records_count table file)))
+  first_columns_shown :
+      read_file file ≡ done table → (r : ℕ) → r < record_count table file → HasFirstColumn table.images (shown_part file r) (get_or columns r zero_number)
+  first_columns_shown reads r l =
+      subst (λ (body : List ℕ). HasFirstColumn table.images body (get_or columns r zero_number)) (sym (record_at file r reads l))
+      (first_columns_each table.images (bodies_in table file) h r (omega (arith, records_count table file)))
 
 -- positions in normal form
 normals_said :
@@ -91,10 +76,10 @@ normals_said index (p ∷ ps) h =
 
 -- the same page, asked of another file
 pub page_asked :
-    {file other : List ℕ} {ps keys ks : List Number} {table : Table}
-    → Askable file ps keys
+    {file other : List ℕ} {ps columns ks : List Number} {table : Table}
+    → Askable file ps columns
     → read_file other ≡ done table
-    → keys_in table other ≡ done ks
+    → first_columns_in table other ≡ done ks
     → UnsignedFixed (get_or table.images 0 no_image)
     → NeverFall ks
     → Askable other ps ks
@@ -104,8 +89,8 @@ page_asked {other = other} {table = table} a reads bodies kind order =
       reads = reads;
       page = a.page;
       bodies = bodies;
-      records = keys_records table other bodies;
-      each = keys_shown table other bodies reads;
+      records = first_columns_records table other bodies;
+      each = first_columns_shown table other bodies reads;
       normals = a.normals;
       positions = a.positions;
       kind = kind;
@@ -115,46 +100,46 @@ page_asked {other = other} {table = table} a reads bodies kind order =
 -- The call.
 
 -- what is asked, of what is given
-pub asked : (file : List ℕ) (ps : List Number) {s : Search} → searching file ps ≡ done s → (keys : List Number) × Askable file ps keys × (s ≡ found ps keys)
+pub asked : (file : List ℕ) (ps : List Number) {s : Search} → searching file ps ≡ done s → (columns : List Number) × Askable file ps columns × (s ≡ found ps columns)
 unfolding searching check_count check_page
 asked file ps {s} h =
-    let one = then_done (read_file file) (λ (t : Table). (check_count ps then λ _. (keys_in t file then λ ks. (check_page t.images ps (fall ks) then λ _. done (found ps ks))))) h in
+    let one = then_done (read_file file) (λ (t : Table). (check_count ps then λ _. (first_columns_in t file then λ ks. (check_page t.images ps (fall ks) then λ _. done (found ps ks))))) h in
     let table = one.value in
-    let two = then_last (check_count ps) (keys_in table file then λ ks. (check_page table.images ps (fall ks) then λ _. done (found ps ks))) one.second in
-    let three = then_done (keys_in table file) (λ (ks : List Number). (check_page table.images ps (fall ks) then λ _. done (found ps ks))) two.1 in
-    let keys = three.value in
-    let four = then_last (check_page table.images ps (fall keys)) (done (found ps keys)) three.second in
-    let taken = page_taken table.images ps (fall keys) four.0 in (
-      keys,
+    let two = then_last (check_count ps) (first_columns_in table file then λ ks. (check_page table.images ps (fall ks) then λ _. done (found ps ks))) one.second in
+    let three = then_done (first_columns_in table file) (λ (ks : List Number). (check_page table.images ps (fall ks) then λ _. done (found ps ks))) two.1 in
+    let columns = three.value in
+    let four = then_last (check_page table.images ps (fall columns)) (done (found ps columns)) three.second in
+    let taken = page_taken table.images ps (fall columns) four.0 in (
+      columns,
       record {
         table = table;
         reads = one.first;
         page = leb-true (length ps) max_positions (passed (leb (length ps) max_positions) 10 two.0);
         bodies = three.first;
-        records = keys_records table file three.first;
-        each = keys_shown table file three.first one.first;
+        records = first_columns_records table file three.first;
+        each = first_columns_shown table file three.first one.first;
         normals = all_normal ps taken.normals;
         positions = (fall_exactly ps).0 taken.positions;
         kind = kind_told table.images taken.kind;
-        in_order = (fall_exactly keys).0 taken.records;
+        in_order = (fall_exactly columns).0 taken.records;
       },
       sym (done_same four.1),
     )
 
 -- what is given, where all that is asked holds
-pub answered : {file : List ℕ} {ps keys : List Number} → Askable file ps keys → searching file ps ≡ done (found ps keys)
-answered {file} {ps} {keys} a =
+pub answered : {file : List ℕ} {ps columns : List Number} → Askable file ps columns → searching file ps ≡ done (found ps columns)
+answered {file} {ps} {columns} a =
     search_done file ps a.reads a.page a.bodies
-    (page_fine a.table.images ps (fall keys) (normals_said 0 ps a.normals) (kind_fine a.table.images a.kind)
-    ((fall_exactly ps).1 a.positions) ((fall_exactly keys).1 a.in_order))
+    (page_fine a.table.images ps (normals_said 0 ps a.normals) (kind_fine a.table.images a.kind)
+    ((fall_exactly ps).1 a.positions) ((fall_exactly columns).1 a.in_order))
 
 -- Published: positions are looked for exactly where all that is asked holds.
 pub search_exactly :
-    (file : List ℕ) (ps : List Number) {s : Search} → (searching file ps ≡ done s) ↔ ((keys : List Number) × Askable file ps keys × (s ≡ found ps keys))
+    (file : List ℕ) (ps : List Number) {s : Search} → (searching file ps ≡ done s) ↔ ((columns : List Number) × Askable file ps columns × (s ≡ found ps columns))
 search_exactly file ps {s} = (asked file ps, λ a. answered a.1 ∙ sym (ap {B = Answer Search} done a.2))
 
 -- Published: and the first records are given then.
-pub search_finds : (file : List ℕ) (ps : List Number) {s : Search} → searching file ps ≡ done s → (keys : List Number) × Askable file ps keys × Finds ps keys s
+pub search_finds : (file : List ℕ) (ps : List Number) {s : Search} → searching file ps ≡ done s → (columns : List Number) × Askable file ps columns × Finds ps columns s
 search_finds file ps h =
     let a = asked file ps h in
     let ask = a.1 in

@@ -1,8 +1,8 @@
 -- Laws of numbers that fall: what comparing two of them tells, and the loops that look for one below the number before it.
 -- Assumes nothing.
-use Rattle.std.proofs.Common.{◌≡◌, ℕ, zero, suc, ◌<◌, length, get_or, add-one, arith, Bool, true, false, not, ◌||◌, List, [], ◌∷◌, ◌++◌, Option, Some, None, Result, Ok, Err, refl, ap, sym, ◌∙◌, append-nil, append_assoc}
-use Rattle.std.proofs.Math.Bool.{or_assoc, or-false, or-true}
-use Rattle.std.specs.Prelude.{MatchResult, IfSome}
+use Rattle.std.proofs.Common.{◌≡◌, ℕ, zero, suc, ◌<◌, length, get_or, add-one, arith, Bool, true, false, not, ◌||◌, List, [], ◌∷◌, Result, Ok, Err, refl, ap, sym, ◌∙◌}
+use Rattle.std.proofs.Math.Bool.{or-true}
+use Rattle.std.specs.Prelude.{MatchResult}
 use Rattle.std.specs.List.{IsAllAdjacentAnswer}
 use Rattle.std.specs.declared.cmp.Ordering.{Ordering}
 use Rattle.std.specs.declared.cmp.Ordering.TheVariants.{Less, Equal, Greater}
@@ -15,7 +15,7 @@ use Rattle.decimal.specs.Comparison.{comparison, is_at_most}
 use Rattle.decimal.proofs.AnswerLaws.{never_done}
 use Rattle.decimal.proofs.ComparisonLaws.{compared, compared_back}
 use Rattle.decimal.proofs.ComparisonTheorem.{order_transitive, order_itself}
-use Rattle.rolls.specs.Falling.{at_most, fall, normal_at_most, is_fallen}
+use Rattle.rolls.specs.Falling.{at_most, fall, normal_at_most}
 
 -- a test does not hold and not hold
 pub not_both : {B : Type 0} {b : Bool} → b ≡ true → b ≡ false → B
@@ -66,58 +66,6 @@ module _ (a b : Number) where
   pub compared_told : (r : Result Ordering Refusal) {t : Bool} → meaning r ≡ comparison a b → MatchResult r (λ o. t ≡ is_le o) (λ _. t ≡ false) → t ≡ normal_at_most a b
   compared_told (Ok o) e m = m ∙ ordered e
   compared_told (Err f) e m = m ∙ never_ordered e
-
--- Looking from the left.
-
--- the number before those that are left, where there is one
-pub lastly : Option Number → List Number
-lastly (Some last) = last ∷ []
-lastly None = []
-
--- numbers that were looked at: whether they fall, and the last of them, say whether they fall with any numbers behind them
-pub record Fallen (ns : List Number) (last : Option Number) (falls : Bool) : Type 0 where
-  pub rest : (others : List Number) → fall (ns ++ others) ≡ (falls || fall (lastly last ++ others))
-  pub last_normal : IfSome last (λ n. normal n ≡ true)
-
--- at the start
-pub fallen_starts : Fallen [] None false
-unfolding lastly
-fallen_starts = record { rest = λ others. refl; last_normal = tt }
-
--- a number more
-fall_next :
-    (last : Option Number) (number : Number) (others : List Number)
-    → IfSome last (λ n. normal n ≡ true)
-    → normal number ≡ true
-    → fall (lastly last ++ number ∷ others) ≡ (is_fallen last number || fall (number ∷ others))
-unfolding fall lastly is_fallen
-fall_next (Some last) number others h g = ap (λ (b : Bool). not b || fall (number ∷ others)) (sym (both_normal last number h g))
-fall_next None number others h g = refl
-
-module _ {ns : List Number} {last : Option Number} {falls : Bool} (f : Fallen ns last falls) where
-  -- with a number more, and others
-  pub fallen_turns : {number : Number} {more : Bool} → normal number ≡ true → more ≡ (falls || is_fallen last number) → Fallen (ns ++ number ∷ []) (Some number) more
-  unfolding lastly
-  fallen_turns {number} {more} h e =
-      record {
-        rest =
-            λ others.
-            ap fall (append_assoc ns (number ∷ []) others)
-            ∙ f.rest (number ∷ others)
-            ∙ ap (λ (b : Bool). falls || b) (fall_next last number others f.last_normal h)
-            ∙ sym (or_assoc falls (is_fallen last number) (fall (number ∷ others)))
-            ∙ ap (λ (b : Bool). b || fall (number ∷ others)) (sym e);
-        last_normal = h;
-      }
-
-  -- at the end
-  pub fallen_ends : falls ≡ fall ns
-  unfolding fall lastly
-  fallen_ends = sym (ap fall (sym (append-nil ns)) ∙ f.rest [] ∙ ap (λ (b : Bool). falls || b) (alone last) ∙ or-false falls)
-    where
-      alone : (last : Option Number) → fall (lastly last ++ []) ≡ false
-      alone (Some last) = refl
-      alone None = refl
 
 -- Looking at each number and the next.
 

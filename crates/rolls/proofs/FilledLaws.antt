@@ -1,17 +1,18 @@
 -- Laws of bodies of one size, one behind the other: taken apart and joined, and those of a file. Assumes nothing.
-use Rattle.std.proofs.Common.{◌≡◌, ℕ, zero, suc, ◌+◌, ◌*◌, ◌/◌, ◌%◌, ◌<◌, ◌≤◌, false, List, [], ◌∷◌, length, take, drop, ap, ap₂, sym, ◌∙◌, arith, zero-mul, get_or}
-use lib.Seq.{length-take-le}
+use Rattle.std.proofs.Common.{◌≡◌, ℕ, zero, suc, ◌+◌, ◌*◌, ◌/◌, ◌%◌, ◌<◌, ◌≤◌, false, List, [], ◌∷◌, length, take, drop, refl, ap, ap₂, sym, subst, ◌∙◌, arith, zero-mul, get_or}
+use lib.Seq.{length-take-le, drop-drop}
 use lib.ListN.{length-drop, take-append-drop}
-use native.Mathlib.Nat.{div-add-mod', suc-mul}
+use native.Mathlib.Nat.{div-add-mod', suc-mul, mul-mod_left}
 use Rattle.std.proofs.Math.Nat.{mul-div_cancel}
 use Rattle.std.specs.List.{concat}
-use Rattle.records.specs.Files.{bodies, record_count, bodies_in}
-use Rattle.records.proofs.BodiesLaws.{bodies_ahead}
-use Rattle.rolls.specs.Merging.{all_bodies}
-use borrow.Author.Tests.{eq-eqb}
+use Rattle.codec.specs.Bodies.{bodies}
+use Rattle.records.specs.Files.RecordFile.{record_count, bodies_in}
+use Rattle.codec.proofs.BodiesLaws.{bodies_ahead}
+use Rattle.rolls.specs.Runs.{all_bodies}
+use borrow.Author.Tests.{eq-eqb, ne_eqb}
 use lib.Dec.{eqb}
 use Rattle.rolls.proofs.FallLaws.{not_both}
-use Rattle.records.proofs.JoinedLaws.{joined_all}
+use Rattle.records.proofs.FileProofs.JoinedLaws.{joined_all}
 use Rattle.codec.specs.Columns.{body_size}
 use Rattle.codec.specs.Contents.{Table}
 use Rattle.codec.specs.Order.{Bytes}
@@ -24,6 +25,10 @@ pub record Filled (size : ℕ) (bytes : List ℕ) : Type 0 where
 -- where nothing is left over
 pub filled_whole : (size : ℕ) (bytes : List ℕ) → length bytes % size ≡ 0 → Filled size bytes
 filled_whole size bytes h = record { count = length bytes / size; fills = let split = div-add-mod' (length bytes) size in omega arith }
+
+-- and nothing is left over
+pub filled_rest : {size : ℕ} {bytes : List ℕ} → Filled size bytes → length bytes % size ≡ 0
+filled_rest {size} f = ap (λ (n : ℕ). n % size) f.fills ∙ mul-mod_left f.count size
 
 module _ {size : ℕ} (some : 0 < size) where
   -- their count
@@ -67,6 +72,29 @@ module _ {size : ℕ} (some : 0 < size) where
             ∙ ap (λ (n : ℕ). take size bytes ∷ bodies n size (drop size bytes)) (sym (filled_count rest));
         less = omega (arith, length-drop size bytes);
       }
+
+  -- so many dropped at the front
+  pub record Dropped (k : ℕ) (bytes left : List ℕ) : Type 0 where
+    pub rest : Filled size left
+    pub same : all_bodies size left ≡ drop k (all_bodies size bytes)
+    pub length_left : length left + k * size ≡ length bytes
+
+  pub filled_drop : (k : ℕ) {bytes : List ℕ} → Filled size bytes → k ≤ length (all_bodies size bytes) → Dropped k bytes (drop (k * size) bytes)
+  filled_drop zero {bytes} f l =
+      subst (Dropped 0 bytes) (ap (λ (n : ℕ). drop n bytes) (sym (zero-mul size)))
+      (record { rest = f; same = refl; length_left = omega (arith, zero-mul size) })
+  filled_drop (suc k) {bytes} f l =
+      let next = filled_next f (some_there l) in
+      let more = filled_drop k next.others (omega (arith, l, ap length next.splits)) in
+      subst (Dropped (suc k) bytes) (drop-drop (k * size) size bytes ∙ ap (λ (n : ℕ). drop n bytes) (omega (arith, suc-mul k size)))
+      (record {
+        rest = more.rest;
+        same = more.same ∙ ap (drop (suc k)) (sym next.splits);
+        length_left = omega (arith, more.length_left, next.less, suc-mul k size);
+      })
+    where
+      some_there : suc k ≤ length (all_bodies size bytes) → eqb (length bytes) 0 ≡ false
+      some_there l = ne_eqb (length bytes) 0 (λ h. let none : length (all_bodies size bytes) ≡ 0 = ap length (filled_none bytes h) in omega arith)
 
   -- all of them joined are the bytes
   pub filled_joined : {bytes : List ℕ} → Filled size bytes → concat (all_bodies size bytes) ≡ bytes

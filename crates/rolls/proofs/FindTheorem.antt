@@ -18,27 +18,27 @@ use Rattle.rolls.proofs.FallTheorem.{fall_view, fall_tail, fall_exactly}
 
 -- The first record.
 
--- no key is
-first_none : (position : Number) → first_record [] position ≡ 0
+-- no first column is
+pub first_none : (position : Number) → first_record [] position ≡ 0
 unfolding first_record
 first_none position = refl
 
-module _ (key : Number) (keys : List Number) (position : Number) where
-  -- the first key is at least the position
-  pub first_here : at_most position key ≡ true → first_record (key ∷ keys) position ≡ 0
+module _ (column : Number) (columns : List Number) (position : Number) where
+  -- the first column is at least the position
+  pub first_here : at_most position column ≡ true → first_record (column ∷ columns) position ≡ 0
   unfolding first_record
   first_here h = rw h
 
   -- it is not
-  pub first_later : at_most position key ≡ false → first_record (key ∷ keys) position ≡ suc (first_record keys position)
+  pub first_later : at_most position column ≡ false → first_record (column ∷ columns) position ≡ suc (first_record columns position)
   unfolding first_record
   first_later h = rw h
 
   -- and the sentence in the same two cases
-  is_here : at_most position key ≡ true → IsFirst (key ∷ keys) position 0
+  is_here : at_most position column ≡ true → IsFirst (column ∷ columns) position 0
   is_here h = record { inside = omega arith; reaches = λ l. h; earlier = λ s l. absurd (omega arith) }
 
-  is_later : {r : ℕ} → at_most position key ≡ false → IsFirst keys position r → IsFirst (key ∷ keys) position (suc r)
+  is_later : {r : ℕ} → at_most position column ≡ false → IsFirst columns position r → IsFirst (column ∷ columns) position (suc r)
   is_later {r} h f =
       record {
         inside = let i = f.inside in omega arith;
@@ -46,24 +46,24 @@ module _ (key : Number) (keys : List Number) (position : Number) where
         earlier = before;
       }
     where
-      before : (s : ℕ) → s < suc r → at_most position (get_or (key ∷ keys) s zero_number) ≡ false
+      before : (s : ℕ) → s < suc r → at_most position (get_or (column ∷ columns) s zero_number) ≡ false
       before zero l = h
       before (suc s) l = f.earlier s (omega arith)
 
 -- what is computed is that record
-is_first : (keys : List Number) (position : Number) → IsFirst keys position (first_record keys position)
+pub is_first : (columns : List Number) (position : Number) → IsFirst columns position (first_record columns position)
 unfolding first_record
 is_first [] position = record { inside = omega arith; reaches = λ l. absurd (omega arith); earlier = λ s l. absurd (omega arith) }
-is_first (key ∷ keys) position = go (at_most position key) refl (is_first keys position)
+is_first (column ∷ columns) position = go (at_most position column) refl (is_first columns position)
   where
-    go : (b : Bool) → at_most position key ≡ b → IsFirst keys position (first_record keys position)
-        → IsFirst (key ∷ keys) position (first_record (key ∷ keys) position)
-    go true h f = rw (first_here key keys position h) (is_here key keys position h)
-    go false h f = rw (first_later key keys position h) (is_later key keys position h f)
+    go : (b : Bool) → at_most position column ≡ b → IsFirst columns position (first_record columns position)
+        → IsFirst (column ∷ columns) position (first_record (column ∷ columns) position)
+    go true h f = rw (first_here column columns position h) (is_here column columns position h)
+    go false h f = rw (first_later column columns position h) (is_later column columns position h f)
 
 -- there is only one
-first_only : (keys : List Number) (position : Number) {r s : ℕ} → IsFirst keys position r → IsFirst keys position s → r ≡ s
-first_only keys position {r} {s} f g =
+first_only : (columns : List Number) (position : Number) {r s : ℕ} → IsFirst columns position r → IsFirst columns position s → r ≡ s
+first_only columns position {r} {s} f g =
     ⊎_elim
     (λ (h : r ≤ s).
     ⊎_elim
@@ -75,107 +75,107 @@ first_only keys position {r} {s} f g =
 
 -- The first records of a list.
 
-pub firsts_count : (keys ps : List Number) → length (first_records keys ps) ≡ length ps
+pub firsts_count : (columns ps : List Number) → length (first_records columns ps) ≡ length ps
 unfolding first_records
-firsts_count keys [] = refl
-firsts_count keys (p ∷ ps) = ap suc (firsts_count keys ps)
+firsts_count columns [] = refl
+firsts_count columns (p ∷ ps) = ap suc (firsts_count columns ps)
 
-pub firsts_at : (keys ps : List Number) (i : ℕ) → i < length ps → get_or (first_records keys ps) i 0 ≡ first_record keys (get_or ps i zero_number)
+pub firsts_at : (columns ps : List Number) (i : ℕ) → i < length ps → get_or (first_records columns ps) i 0 ≡ first_record columns (get_or ps i zero_number)
 unfolding first_records
-firsts_at keys [] i l = absurd (omega arith)
-firsts_at keys (p ∷ ps) zero l = refl
-firsts_at keys (p ∷ ps) (suc i) l = firsts_at keys ps i (omega arith)
+firsts_at columns [] i l = absurd (omega arith)
+firsts_at columns (p ∷ ps) zero l = refl
+firsts_at columns (p ∷ ps) (suc i) l = firsts_at columns ps i (omega arith)
 
 -- counted from a record number on
 firsts_from : ℕ → List Number → List Number → List ℕ
-firsts_from r keys [] = []
-firsts_from r keys (p ∷ ps) = (r + first_record keys p) ∷ firsts_from r keys ps
+firsts_from r columns [] = []
+firsts_from r columns (p ∷ ps) = (r + first_record columns p) ∷ firsts_from r columns ps
 
-firsts_zero : (keys ps : List Number) → firsts_from 0 keys ps ≡ first_records keys ps
+firsts_zero : (columns ps : List Number) → firsts_from 0 columns ps ≡ first_records columns ps
 unfolding firsts_from first_records
-firsts_zero keys [] = refl
-firsts_zero keys (p ∷ ps) = ap₂ (λ (n : ℕ) (l : List ℕ). n ∷ l) (omega arith) (firsts_zero keys ps)
+firsts_zero columns [] = refl
+firsts_zero columns (p ∷ ps) = ap₂ (λ (n : ℕ) (l : List ℕ). n ∷ l) (omega arith) (firsts_zero columns ps)
 
 -- The walk.
 
--- a key that is below the first of positions that do not fall is below all
-data AllAbove (key : Number) : List Number → Type 0 where
-  none : AllAbove key []
-  more : {p : Number} {ps : List Number} → at_most p key ≡ false → AllAbove key ps → AllAbove key (p ∷ ps)
+-- a first column that is below the first of positions that do not fall is below all
+data AllAbove (column : Number) : List Number → Type 0 where
+  none : AllAbove column []
+  more : {p : Number} {ps : List Number} → at_most p column ≡ false → AllAbove column ps → AllAbove column (p ∷ ps)
 
-all_above : (key p : Number) (ps : List Number) → fall (p ∷ ps) ≡ false → at_most p key ≡ false → AllAbove key (p ∷ ps)
-all_above key p [] h a = AllAbove.more a AllAbove.none
-all_above key p (q ∷ ps) h a =
+all_above : (column p : Number) (ps : List Number) → fall (p ∷ ps) ≡ false → at_most p column ≡ false → AllAbove column (p ∷ ps)
+all_above column p [] h a = AllAbove.more a AllAbove.none
+all_above column p (q ∷ ps) h a =
     let v = fall_view p q ps h in
-    AllAbove.more a (all_above key q ps v.1 (above (at_most q key) refl v.0))
+    AllAbove.more a (all_above column q ps v.1 (above (at_most q column) refl v.0))
   where
-    above : (b : Bool) → at_most q key ≡ b → at_most p q ≡ true → at_most q key ≡ false
-    above true e g = not_both (at_most_transitive p q key g e) a
+    above : (b : Bool) → at_most q column ≡ b → at_most p q ≡ true → at_most q column ≡ false
+    above true e g = not_both (at_most_transitive p q column g e) a
     above false e g = e
 
 -- then no position has its record
-firsts_skip : (r : ℕ) {key : Number} (keys : List Number) {ps : List Number} → AllAbove key ps → firsts_from r (key ∷ keys) ps ≡ firsts_from (suc r) keys ps
+firsts_skip : (r : ℕ) {column : Number} (columns : List Number) {ps : List Number} → AllAbove column ps → firsts_from r (column ∷ columns) ps ≡ firsts_from (suc r) columns ps
 unfolding firsts_from
-firsts_skip r keys AllAbove.none = refl
-firsts_skip r {key} keys (AllAbove.more {p} {ps} h others) =
-    ap₂ (λ (n : ℕ) (l : List ℕ). n ∷ l) (omega (arith, first_later key keys p h)) (firsts_skip r keys others)
+firsts_skip r columns AllAbove.none = refl
+firsts_skip r {column} columns (AllAbove.more {p} {ps} h others) =
+    ap₂ (λ (n : ℕ) (l : List ℕ). n ∷ l) (omega (arith, first_later column columns p h)) (firsts_skip r columns others)
 
 -- the walk's answers, from a record number on
-walk_from : (r : ℕ) (ps keys : List Number) → fall ps ≡ false → (walk r ps keys).records ≡ firsts_from r keys ps
+walk_from : (r : ℕ) (ps columns : List Number) → fall ps ≡ false → (walk r ps columns).records ≡ firsts_from r columns ps
 unfolding walk giving comparing firsts_from
-walk_from r [] keys h = refl
+walk_from r [] columns h = refl
 walk_from r (p ∷ ps) [] h = ap₂ (λ (n : ℕ) (l : List ℕ). n ∷ l) (omega (arith, first_none p)) (walk_from r ps [] (fall_tail p ps h))
-walk_from r (p ∷ ps) (key ∷ keys) h =
-    go (at_most p key) refl (walk_from r ps (key ∷ keys) (fall_tail p ps h)) (walk_from (suc r) (p ∷ ps) keys h)
+walk_from r (p ∷ ps) (column ∷ columns) h =
+    go (at_most p column) refl (walk_from r ps (column ∷ columns) (fall_tail p ps h)) (walk_from (suc r) (p ∷ ps) columns h)
   where
     go : (b : Bool)
-        → at_most p key ≡ b
-        → (walk r ps (key ∷ keys)).records ≡ firsts_from r (key ∷ keys) ps
-        → (walk (suc r) (p ∷ ps) keys).records ≡ firsts_from (suc r) keys (p ∷ ps)
-        → (walk r (p ∷ ps) (key ∷ keys)).records ≡ firsts_from r (key ∷ keys) (p ∷ ps)
-    go true e same next = rw e (ap₂ (λ (n : ℕ) (l : List ℕ). n ∷ l) (omega (arith, first_here key keys p e)) same)
-    go false e same next = rw e (next ∙ sym (firsts_skip r keys (all_above key p ps h e)))
+        → at_most p column ≡ b
+        → (walk r ps (column ∷ columns)).records ≡ firsts_from r (column ∷ columns) ps
+        → (walk (suc r) (p ∷ ps) columns).records ≡ firsts_from (suc r) columns (p ∷ ps)
+        → (walk r (p ∷ ps) (column ∷ columns)).records ≡ firsts_from r (column ∷ columns) (p ∷ ps)
+    go true e same next = rw e (ap₂ (λ (n : ℕ) (l : List ℕ). n ∷ l) (omega (arith, first_here column columns p e)) same)
+    go false e same next = rw e (next ∙ sym (firsts_skip r columns (all_above column p ps h e)))
 
 -- Published: for positions that do not fall the walk gives the first records.
-pub walk_firsts : (ps keys : List Number) → fall ps ≡ false → (walk 0 ps keys).records ≡ first_records keys ps
-walk_firsts ps keys h = walk_from 0 ps keys h ∙ firsts_zero keys ps
+pub walk_firsts : (ps columns : List Number) → fall ps ≡ false → (walk 0 ps columns).records ≡ first_records columns ps
+walk_firsts ps columns h = walk_from 0 ps columns h ∙ firsts_zero columns ps
 
 -- Published: it makes at most positions plus records comparisons.
-pub walk_few : (r : ℕ) (ps keys : List Number) → (walk r ps keys).comparisons ≤ length ps + length keys
+pub walk_few : (r : ℕ) (ps columns : List Number) → (walk r ps columns).comparisons ≤ length ps + length columns
 unfolding walk giving comparing
-walk_few r [] keys = omega arith
+walk_few r [] columns = omega arith
 walk_few r (p ∷ ps) [] = let l = walk_few r ps [] in omega arith
-walk_few r (p ∷ ps) (key ∷ keys) = go (at_most p key) refl (walk_few r ps (key ∷ keys)) (walk_few (suc r) (p ∷ ps) keys)
+walk_few r (p ∷ ps) (column ∷ columns) = go (at_most p column) refl (walk_few r ps (column ∷ columns)) (walk_few (suc r) (p ∷ ps) columns)
   where
     go : (b : Bool)
-        → at_most p key ≡ b
-        → (walk r ps (key ∷ keys)).comparisons ≤ length ps + length (key ∷ keys)
-        → (walk (suc r) (p ∷ ps) keys).comparisons ≤ length (p ∷ ps) + length keys
-        → (walk r (p ∷ ps) (key ∷ keys)).comparisons ≤ length (p ∷ ps) + length (key ∷ keys)
+        → at_most p column ≡ b
+        → (walk r ps (column ∷ columns)).comparisons ≤ length ps + length (column ∷ columns)
+        → (walk (suc r) (p ∷ ps) columns).comparisons ≤ length (p ∷ ps) + length columns
+        → (walk r (p ∷ ps) (column ∷ columns)).comparisons ≤ length (p ∷ ps) + length (column ∷ columns)
     go true e one two = rw e (omega arith)
     go false e one two = rw e (omega arith)
 
--- Published: what the call gives for positions and keys that do not fall.
-pub finds : (ps keys : List Number) → NeverFall ps → NeverFall keys → Finds ps keys (found ps keys)
+-- Published: what the call gives for positions and first columns that do not fall.
+pub finds : (ps columns : List Number) → NeverFall ps → NeverFall columns → Finds ps columns (found ps columns)
 unfolding found
-finds ps keys p k =
+finds ps columns p k =
     record {
-      counted = firsts_count keys ps;
-      first = λ i l. rw (firsts_at keys ps i l) (is_first keys (get_or ps i zero_number));
-      only = λ i r l f. first_only keys (get_or ps i zero_number) f (is_first keys (get_or ps i zero_number)) ∙ sym (firsts_at keys ps i l);
+      counted = firsts_count columns ps;
+      first = λ i l. rw (firsts_at columns ps i l) (is_first columns (get_or ps i zero_number));
+      only = λ i r l f. first_only columns (get_or ps i zero_number) f (is_first columns (get_or ps i zero_number)) ∙ sym (firsts_at columns ps i l);
       later = λ i r l above below. behind i r l above below;
       walked =
-          ap (λ (rs : List ℕ). record { records = rs; comparisons = (walk 0 ps keys).comparisons })
-          (walk_firsts ps keys ((fall_exactly ps).1 p));
-      few = walk_few 0 ps keys;
+          ap (λ (rs : List ℕ). record { records = rs; comparisons = (walk 0 ps columns).comparisons })
+          (walk_firsts ps columns ((fall_exactly ps).1 p));
+      few = walk_few 0 ps columns;
     }
   where
-    behind : (i r : ℕ) → i < length ps → get_or (first_records keys ps) i 0 ≤ r → r < length keys
-        → at_most (get_or ps i zero_number) (get_or keys r zero_number) ≡ true
+    behind : (i r : ℕ) → i < length ps → get_or (first_records columns ps) i 0 ≤ r → r < length columns
+        → at_most (get_or ps i zero_number) (get_or columns r zero_number) ≡ true
     behind i r l above below =
         let position : Number = get_or ps i zero_number in
-        let at : ℕ = first_record keys position in
-        let same : get_or (first_records keys ps) i 0 ≡ at = firsts_at keys ps i l in
-        let here : at < length keys = omega arith in
-        at_most_transitive position (get_or keys at zero_number) (get_or keys r zero_number) ((is_first keys position).reaches here)
+        let at : ℕ = first_record columns position in
+        let same : get_or (first_records columns ps) i 0 ≡ at = firsts_at columns ps i l in
+        let here : at < length columns = omega arith in
+        at_most_transitive position (get_or columns at zero_number) (get_or columns r zero_number) ((is_first columns position).reaches here)
         (k.in_order at r (omega arith) below)

@@ -1,27 +1,26 @@
 -- Laws of what is asked of files that are merged: of a file read whole, and of two. Assumes nothing.
-use Rattle.std.proofs.Common.{◌≡◌, ℕ, Bool, true, false, not, List, ap₂, sym, ◌∙◌, ◌<◌, ◌≤◌, ◌||◌, length, refl, ap, arith}
+use Rattle.std.proofs.Common.{◌≡◌, ℕ, Bool, true, false, not, List, sym, ◌∙◌, ◌||◌, refl, ap}
 use Rattle.std.specs.Prelude.{bytes_eq}
 use Rattle.decimal.specs.declared.image.Image.{Image}
-use Rattle.decimal.specs.Answer.{done, refused, ◌then◌, mapped, Answer}
-use Rattle.decimal.proofs.AnswerLaws.{mapped_done, mapped_back, mapped_refused_back, one_answer, done_same, then_done, then_last}
-use Rattle.codec.specs.declared.contents.Contents.{Contents}
-use Rattle.codec.specs.Contents.{Table, contents_of, read_alone}
-use Rattle.records.specs.Files.{read_file}
+use Rattle.decimal.specs.Answer.{done, refused, ◌then◌, Answer}
+use Rattle.decimal.proofs.AnswerLaws.{one_answer, done_same, then_done, then_last}
+use Rattle.codec.specs.Contents.{Table, read_alone}
+use Rattle.records.specs.Files.RecordFile.{read_file}
 use Rattle.rolls.specs.Falling.{fall}
-use Rattle.rolls.specs.Searching.{keys_in, check_kind, refuse_where, keys_read}
-use Rattle.rolls.specs.Merging.{read_whole, whole_of, check_pair, WholeFile, contents_in}
-use Rattle.rolls.proofs.PassLaws.{keys_same}
+use Rattle.rolls.specs.Searching.{first_columns_in, check_kind, refuse_where}
+use Rattle.rolls.specs.Merging.{read_whole, check_pair, check_contents, WholeFile, contents_in}
+use Rattle.records.specs.Files.Listing.{checked_file}
+use Rattle.records.proofs.FileProofs.RecordLinesLaws.{checked_refused}
+use Rattle.rolls.proofs.FirstColumnLaws.{checked_stops}
 use Rattle.std.proofs.lemmas.Slice.Eq.{bytes_eq-Decides}
 use Rattle.decimal.specs.declared.number.Number.{Number}
-use Rattle.codec.proofs.ContentsLaws.{contents_sound}
 use Rattle.codec.proofs.FrontLaws.{contents_alone}
-use Rattle.records.proofs.FileLaws.{file_told}
-use Rattle.rolls.specs.declared.merging.Whole.{Whole}
+use Rattle.records.proofs.FileProofs.FileLaws.{file_told}
 use Rattle.rolls.specs.MergedFiles.{Mergeable}
 use Rattle.rolls.proofs.FallTheorem.{fall_exactly}
 use Rattle.rolls.proofs.FallLaws.{not_both}
 use Rattle.rolls.proofs.PageLaws.{kind_told}
-use Rattle.rolls.proofs.SearchLaws.{not_refused}
+use Rattle.rolls.proofs.SearchLaws.{not_refused, FileChecked}
 
 -- A file read whole.
 
@@ -33,86 +32,73 @@ module _ (file : List ℕ) where
 
   module _ {table : Table} (reads : read_file file ≡ done table) where
     -- 7
-    pub whole_bad : {x y : ℕ} → keys_in table file ≡ refused x y → read_whole file ≡ refused x y
+    pub whole_bad : {x y : ℕ} → first_columns_in table file ≡ refused x y → read_whole file ≡ refused x y
     unfolding read_whole ◌then◌
     whole_bad h = rw (reads, h)
 
     -- nothing
-    pub whole_fine : {keys : List _} → keys_in table file ≡ done keys → read_whole file ≡ done (record { table = table; falls = fall keys })
+    pub whole_fine : {columns : List _} → first_columns_in table file ≡ done columns → read_whole file ≡ done (record { table = table; falls = fall columns })
     unfolding read_whole ◌then◌
     whole_fine h = rw (reads, h)
 
-  -- what the code finds
-  module _ {t : Contents} (h : done t ≡ mapped contents_of (read_file file)) where
-    pub whole_stopped : {x y : ℕ} → refused x y ≡ mapped fall (keys_read file) → read_whole file ≡ refused x y
-    whole_stopped g =
-        let table = mapped_back contents_of (read_file file) h in
-        whole_bad table.1 (sym (keys_same file table.1) ∙ mapped_refused_back fall (keys_read file) g)
+  -- as its bodies are
+  pub whole_stops : {x y : ℕ} → refused x y ≡ checked_file file → read_whole file ≡ refused x y
+  whole_stops {x} {y} h = go (read_file file) refl
+    where
+      go : (a : Answer Table) → read_file file ≡ a → read_whole file ≡ refused x y
+      go (done t) reads = whole_bad reads (checked_stops file reads (sym h))
+      go (refused i j) reads = whole_unread (reads ∙ sym (h ∙ checked_refused file reads))
 
-    pub whole_told : {falls : Bool} → done falls ≡ mapped fall (keys_read file) → done (record { table = t; falls = falls }) ≡ mapped whole_of (read_whole file)
-    whole_told {falls} g =
-        let table = mapped_back contents_of (read_file file) h in
-        let keys = mapped_back fall (keys_read file) g in
-        ap₂ (λ (c : Contents) (b : Bool). done (record { table = c; falls = b })) table.2 keys.2
-        ∙ sym (mapped_done whole_of (whole_fine table.1 (sym (keys_same file table.1) ∙ keys.1)))
+  -- and where it is checked
+  pub whole_checked : {table : Table} (c : FileChecked file table) → read_whole file ≡ done (record { table = table; falls = fall c.columns })
+  whole_checked c = whole_fine c.held.reads c.read
 
 -- what is known of it
 pub record WholeTold (file : List ℕ) (w : WholeFile) : Type 0 where
   pub reads : read_file file ≡ done w.table
-  pub keys : List Number
-  pub read : keys_in w.table file ≡ done keys
-  pub falls : w.falls ≡ fall keys
+  pub columns : List Number
+  pub read : first_columns_in w.table file ≡ done columns
+  pub falls : w.falls ≡ fall columns
 
 pub whole_view : (file : List ℕ) {w : WholeFile} → read_whole file ≡ done w → WholeTold file w
 unfolding read_whole
 whole_view file {w} h =
-    let a = then_done (read_file file) (λ (t : Table). (keys_in t file then λ (keys : List Number). done (record { table = t; falls = fall keys }))) h in
-    let b = then_done (keys_in a.value file) (λ (keys : List Number). done (record { table = a.value; falls = fall keys })) a.second in
+    let a = then_done (read_file file) (λ (t : Table). (first_columns_in t file then λ (columns : List Number). done (record { table = t; falls = fall columns }))) h in
+    let b = then_done (first_columns_in a.value file) (λ (columns : List Number). done (record { table = a.value; falls = fall columns })) a.second in
     let same : ◌≡◌ {A = WholeFile} (record { table = a.value; falls = fall b.value }) w = done_same b.second in
     record {
       reads = a.first ∙ ap (λ (v : WholeFile). done v.table) same;
-      keys = b.value;
-      read = ap (λ (v : WholeFile). keys_in v.table file) (sym same) ∙ b.first;
+      columns = b.value;
+      read = ap (λ (v : WholeFile). first_columns_in v.table file) (sym same) ∙ b.first;
       falls = sym (ap (λ (v : WholeFile). v.falls) same);
     }
 
--- the code's is inside the file
-pub whole_within : (file : List ℕ) {w : Whole} → done w ≡ mapped whole_of (read_whole file) → w.table.size ≤ length file
-whole_within file h =
-    let m = mapped_back whole_of (read_whole file) h in
-    let t = whole_view file m.1 in
-    omega (arith, ap (λ (v : Whole). v.table.size) m.2, (file_told file t.reads).within)
-
--- and has an image
-pub whole_images : (file : List ℕ) {w : Whole} → done w ≡ mapped whole_of (read_whole file) → 0 < length w.table.images.items
-whole_images file h =
-    let m = mapped_back whole_of (read_whole file) h in
-    let t = whole_view file m.1 in
-    omega (arith, ap (λ (v : Whole). length v.table.images.items) m.2, (contents_sound file (file_told file t.reads).contents).low)
-
 -- What is asked of two files.
 
-module _ (contents other : List ℕ) (ims : List Image) (falls : Bool) where
+module _ (contents other : List ℕ) (ims : List Image) where
   -- 17
-  pub pair_differs : true ≡ not (bytes_eq contents other) → check_pair contents other ims falls ≡ refused 17 0
-  unfolding check_pair refuse_where ◌then◌
-  pair_differs h = rw (sym h)
+  pub contents_differ : true ≡ not (bytes_eq contents other) → check_contents contents other ims ≡ refused 17 0
+  unfolding check_contents refuse_where ◌then◌
+  contents_differ h = rw (sym h)
 
-  module _ (same : false ≡ not (bytes_eq contents other)) where
-    -- 16
-    pub pair_kind : {x y : ℕ} → check_kind ims ≡ refused x y → check_pair contents other ims falls ≡ refused x y
-    unfolding check_pair refuse_where ◌then◌
-    pair_kind h = rw (sym same, h)
+  -- 16, or nothing
+  pub contents_kind : false ≡ not (bytes_eq contents other) → check_contents contents other ims ≡ check_kind ims
+  unfolding check_contents refuse_where ◌then◌
+  contents_kind h = rw (sym h)
 
-    -- 15, or nothing
-    pub pair_falls : check_kind ims ≡ done tt → check_pair contents other ims falls ≡ refuse_where falls 15
-    unfolding check_pair refuse_where ◌then◌
-    pair_falls h = rw (sym same, h)
+  -- and 15 behind them
+  pub pair_parts : (falls : Bool) → check_pair contents other ims falls ≡ (check_contents contents other ims then λ _. refuse_where falls 15)
+  unfolding check_pair check_contents ◌then◌
+  pair_parts falls = go (refuse_where (not (bytes_eq contents other)) 17)
+    where
+      go : (a : Answer (Unit {0})) → (a then λ _. (check_kind ims then λ _. refuse_where falls 15)) ≡ ((a then λ _. check_kind ims) then λ _. refuse_where falls 15)
+      go (refused x y) = refl
+      go (done u) = refl
 
 -- Two files that are taken.
 
 -- bytes that the test takes for the same are
-same_bytes : (xs ys : List ℕ) → not (bytes_eq xs ys) ≡ false → xs ≡ ys
+pub same_bytes : (xs ys : List ℕ) → not (bytes_eq xs ys) ≡ false → xs ≡ ys
 same_bytes xs ys h = go (bytes_eq xs ys) refl h
   where
     go : (b : Bool) → bytes_eq xs ys ≡ b → not b ≡ false → xs ≡ ys
@@ -170,13 +156,13 @@ pair_view first second {one} {two} p q h =
         first_file = a.reads;
         second_file = b.reads ∙ ap {B = Answer Table} done tables;
         contents = t.same ∙ ap (λ (t : Table). contents_in t second) tables;
-        first_keys = a.keys;
-        second_keys = b.keys;
+        first_file_columns = a.columns;
+        second_file_columns = b.columns;
         first_read = a.read;
-        second_read = ap (λ (t : Table). keys_in t second) (sym tables) ∙ b.read;
+        second_read = ap (λ (t : Table). first_columns_in t second) (sym tables) ∙ b.read;
         kind = kind_told one.table.images t.kind;
-        first_order = (fall_exactly a.keys).0 (sym a.falls ∙ f.0);
-        second_order = (fall_exactly b.keys).0 (sym b.falls ∙ f.1);
+        first_order = (fall_exactly a.columns).0 (sym a.falls ∙ f.0);
+        second_order = (fall_exactly b.columns).0 (sym b.falls ∙ f.1);
       },
       refl,
       tables,

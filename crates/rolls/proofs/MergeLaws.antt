@@ -2,7 +2,7 @@
 use Rattle.std.proofs.Common.{◌≡◌, ℕ, ◌+◌, Bool, true, false, List, [], ◌∷◌, length, length-append, refl, ap, sym, ◌∙◌, arith}
 use Rattle.std.specs.List.{concat}
 use Rattle.rolls.specs.Merging.{merged}
-use Rattle.records.proofs.JoinedLaws.{Each, each_first, each_others}
+use Rattle.records.proofs.FileProofs.JoinedLaws.{Each, each_first, each_others}
 
 -- What holds of two lists and the merged one, step by step.
 module _

@@ -1,4 +1,4 @@
--- Document 02, (vi): what is merged by the keys, of two lists that do not fall, meets the four clauses, and no other list does.
+-- Document 02, (vi): what is merged by the first columns, of two lists that do not fall, meets the four clauses, and no other list does.
 -- Assumes nothing.
 use Rattle.std.proofs.Common.{◌≡◌, ℕ, zero, suc, ◌+◌, ◌<◌, Bool, true, false, not, List, [], ◌∷◌, length, map, get_or, refl, ap, ap₂, sym, subst, ◌∙◌, arith}
 use mathlib.Core.Logic.{⊎_elim}
@@ -12,13 +12,13 @@ use Rattle.decimal.specs.Number.{zero_number}
 use Rattle.decimal.specs.Comparison.{value_order, is_at_most, opposite}
 use Rattle.decimal.proofs.ComparisonTheorem.{order_opposite, order_total}
 use Rattle.rolls.specs.Falling.{at_most, NeverFall, fall}
-use Rattle.rolls.specs.Merging.{Entry, is_from, of_camera, times, first_at, IsMerge, merged, by_key}
+use Rattle.rolls.specs.Merging.{Entry, is_from, of_camera, times, first_at, IsMerge, merged, by_first_column}
 use Rattle.rolls.proofs.FallLaws.{not_both, at_most_transitive, at_most_itself}
 use Rattle.rolls.proofs.FallTheorem.{fall_view, fall_tail, fall_exactly}
-use Rattle.records.proofs.JoinedLaws.{Each, each_first, each_others, each_so}
+use Rattle.records.proofs.FileProofs.JoinedLaws.{Each, each_first, each_others, each_so}
 use Rattle.rolls.proofs.MergeLaws.{merged_by, merged_none, none_merged, merged_first, merged_second, merged_each}
 
--- Two keys.
+-- Two first columns.
 
 -- of two that are equal the second is at most the first
 equal_back : (a b : Number) → value_order a b ≡ Equal → at_most b a ≡ true
@@ -169,36 +169,36 @@ counted body (e ∷ es) = go e.is_first refl (counted body es)
         rw (of_same true e es k, of_more false e es (ap not k))
         (omega (arith, r, sum_by-cons one e.body (bodies_of es), sum_by-cons one e.body (of_camera false es)))
 
-module _ (key : List ℕ → Number) where
-  abbrev keys : List (List ℕ) → List Number
-  keys bs = map key bs
+module _ (column : List ℕ → Number) where
+  abbrev columns : List (List ℕ) → List Number
+  columns bs = map column bs
 
-  -- a key at a place
-  key_at : (bs : List (List ℕ)) (j : ℕ) → j < length bs → get_or (keys bs) j zero_number ≡ key (get_or bs j [])
-  key_at bs j l = get_or-map key bs j [] zero_number l
+  -- a first column at a place
+  first_column_at : (bs : List (List ℕ)) (j : ℕ) → j < length bs → get_or (columns bs) j zero_number ≡ column (get_or bs j [])
+  first_column_at bs j l = get_or-map column bs j [] zero_number l
 
-  -- a body's key is at least another
+  -- a body's first column is at least another
   abbrev From : Number → List ℕ → Type 0
-  From k b = at_most k (key b) ≡ true
+  From k b = at_most k (column b) ≡ true
 
   -- so are those of all behind it, where none falls
-  all_from_first : (b : List ℕ) (bs : List (List ℕ)) → fall (keys (b ∷ bs)) ≡ false → Each (From (key b)) bs
+  all_from_first : (b : List ℕ) (bs : List (List ℕ)) → fall (columns (b ∷ bs)) ≡ false → Each (From (column b)) bs
   all_from_first b [] h = Each.none
   all_from_first b (d ∷ ds) h =
-      let v = fall_view (key b) (key d) (keys ds) h in
-      Each.more v.0 (each_so (λ x p. at_most_transitive (key b) (key d) (key x) v.0 p) (all_from_first d ds v.1))
+      let v = fall_view (column b) (column d) (columns ds) h in
+      Each.more v.0 (each_so (λ x p. at_most_transitive (column b) (column d) (column x) v.0 p) (all_from_first d ds v.1))
 
   -- and back
-  none_falls : (b : List ℕ) (bs : List (List ℕ)) → Each (From (key b)) bs → fall (keys bs) ≡ false → fall (keys (b ∷ bs)) ≡ false
+  none_falls : (b : List ℕ) (bs : List (List ℕ)) → Each (From (column b)) bs → fall (columns bs) ≡ false → fall (columns (b ∷ bs)) ≡ false
   unfolding fall
   none_falls b [] e h = refl
   none_falls b (d ∷ ds) e h = rw (each_first e) h
 
-  -- on equal keys the first camera's stand first
+  -- on equal first columns the first camera's stand first
   abbrev Ties : List Entry → Type 0
   Ties es =
       (i j : ℕ) → i < j → j < length es
-      → value_order (get_or (keys (bodies_of es)) i zero_number) (get_or (keys (bodies_of es)) j zero_number) ≡ Equal
+      → value_order (get_or (columns (bodies_of es)) i zero_number) (get_or (columns (bodies_of es)) j zero_number) ≡ Equal
       → first_at es i ≡ false
       → first_at es j ≡ false
 
@@ -206,22 +206,22 @@ module _ (key : List ℕ → Number) where
   pub entries_count : (es : List Entry) → length (bodies_of es) ≡ length es
   entries_count es = length-map es (λ (e : Entry). e.body)
 
-  -- the key of an entry
-  key_of_entry : (es : List Entry) (j : ℕ) → j < length es → get_or (keys (bodies_of es)) j zero_number ≡ key (get_or (bodies_of es) j [])
-  key_of_entry es j l = key_at (bodies_of es) j (omega (arith, entries_count es))
+  -- the first column of an entry
+  first_column_of_entry : (es : List Entry) (j : ℕ) → j < length es → get_or (columns (bodies_of es)) j zero_number ≡ column (get_or (bodies_of es) j [])
+  first_column_of_entry es j l = first_column_at (bodies_of es) j (omega (arith, entries_count es))
 
   -- Two lists that do not fall, merged.
 
   record Labelled (xs ys zs : List (List ℕ)) : Type 0 where
     pub entries : List Entry
     pub whole : zs ≡ bodies_of entries
-    pub in_order : fall (keys zs) ≡ false
+    pub in_order : fall (columns zs) ≡ false
     pub firsts : of_camera true entries ≡ xs
     pub seconds : of_camera false entries ≡ ys
     pub ties : Ties entries
 
   -- those of one camera alone
-  alone_second : (ys : List (List ℕ)) → fall (keys ys) ≡ false → Labelled [] ys ys
+  alone_second : (ys : List (List ℕ)) → fall (columns ys) ≡ false → Labelled [] ys ys
   alone_second ys h =
       record {
         entries = all_from false ys;
@@ -232,7 +232,7 @@ module _ (key : List ℕ → Number) where
         ties = λ i j k l e f. camera_of_all false ys j (omega (arith, l, ap length (all_bodies_of false ys), entries_count (all_from false ys)));
       }
 
-  alone_first : (xs : List (List ℕ)) → fall (keys xs) ≡ false → Labelled xs [] xs
+  alone_first : (xs : List (List ℕ)) → fall (columns xs) ≡ false → Labelled xs [] xs
   alone_first xs h =
       record {
         entries = all_from true xs;
@@ -251,10 +251,10 @@ module _ (key : List ℕ → Number) where
   ties_first b es t (suc i) zero k l e f = absurd (omega arith)
   ties_first b es t (suc i) (suc j) k l e f = t i j (omega arith) (omega arith) e f
 
-  -- one of the second camera, behind which no record of the first has an equal key
+  -- one of the second camera, behind which no record of the first has an equal first column
   ties_second :
       (b : List ℕ) (es : List Entry)
-      → ((j : ℕ) → j < length es → value_order (key b) (get_or (keys (bodies_of es)) j zero_number) ≡ Equal → first_at es j ≡ false)
+      → ((j : ℕ) → j < length es → value_order (column b) (get_or (columns (bodies_of es)) j zero_number) ≡ Equal → first_at es j ≡ false)
       → Ties es
       → Ties (record { is_first = false; body = b } ∷ es)
   ties_second b es n t zero zero k l e f = absurd (omega arith)
@@ -262,42 +262,42 @@ module _ (key : List ℕ → Number) where
   ties_second b es n t (suc i) zero k l e f = absurd (omega arith)
   ties_second b es n t (suc i) (suc j) k l e f = t i j (omega arith) (omega arith) e f
 
-  -- where all of the first camera are at least a key that is not at most another, none of them has that other
+  -- where all of the first camera are at least a first column that is not at most another, none of them has that other
   no_tie :
       (x y : List ℕ) (es : List Entry) {xs : List (List ℕ)}
-      → at_most (key x) (key y) ≡ false
+      → at_most (column x) (column y) ≡ false
       → of_camera true es ≡ xs
-      → Each (From (key x)) xs
+      → Each (From (column x)) xs
       → (j : ℕ) → j < length es
-      → value_order (key y) (get_or (keys (bodies_of es)) j zero_number) ≡ Equal
+      → value_order (column y) (get_or (columns (bodies_of es)) j zero_number) ≡ Equal
       → first_at es j ≡ false
   no_tie x y es h c a j l e = go (first_at es j) refl
     where
       go : (b : Bool) → first_at es j ≡ b → b ≡ false
       go false k = refl
       go true k =
-          let there : Number = get_or (keys (bodies_of es)) j zero_number in
-          let above : at_most (key x) there ≡ true =
-          ap (at_most (key x)) (key_of_entry es j l) ∙ camera_has true {P = From (key x)} es j l k (subst (Each (From (key x))) (sym c) a) in
-          not_both (at_most_transitive (key x) there (key y) above (equal_back (key y) there e)) h
+          let there : Number = get_or (columns (bodies_of es)) j zero_number in
+          let above : at_most (column x) there ≡ true =
+          ap (at_most (column x)) (first_column_of_entry es j l) ∙ camera_has true {P = From (column x)} es j l k (subst (Each (From (column x))) (sym c) a) in
+          not_both (at_most_transitive (column x) there (column y) above (equal_back (column y) there e)) h
 
   -- the first list's first record goes first
   takes_first :
       (x : List ℕ) (xs : List (List ℕ)) (y : List ℕ) (ys : List (List ℕ))
-      → by_key key x y ≡ true
-      → (fall (keys xs) ≡ false → fall (keys (y ∷ ys)) ≡ false → Labelled xs (y ∷ ys) (merged (by_key key) xs (y ∷ ys)))
-      → fall (keys (x ∷ xs)) ≡ false
-      → fall (keys (y ∷ ys)) ≡ false
-      → Labelled (x ∷ xs) (y ∷ ys) (x ∷ merged (by_key key) xs (y ∷ ys))
+      → by_first_column column x y ≡ true
+      → (fall (columns xs) ≡ false → fall (columns (y ∷ ys)) ≡ false → Labelled xs (y ∷ ys) (merged (by_first_column column) xs (y ∷ ys)))
+      → fall (columns (x ∷ xs)) ≡ false
+      → fall (columns (y ∷ ys)) ≡ false
+      → Labelled (x ∷ xs) (y ∷ ys) (x ∷ merged (by_first_column column) xs (y ∷ ys))
   takes_first x xs y ys h r f g =
-      let m = r (fall_tail (key x) (keys xs) f) g in
+      let m = r (fall_tail (column x) (columns xs) f) g in
       let e : Entry = record { is_first = true; body = x } in
-      let from_y : Each (From (key x)) (y ∷ ys) =
-      Each.more h (each_so (λ b p. at_most_transitive (key x) (key y) (key b) h p) (all_from_first y ys g)) in
+      let from_y : Each (From (column x)) (y ∷ ys) =
+      Each.more h (each_so (λ b p. at_most_transitive (column x) (column y) (column b) h p) (all_from_first y ys g)) in
       record {
         entries = e ∷ m.entries;
         whole = ap (λ (l : List (List ℕ)). x ∷ l) m.whole;
-        in_order = none_falls x (merged (by_key key) xs (y ∷ ys)) (merged_each (by_key key) xs (y ∷ ys) (all_from_first x xs f) from_y) m.in_order;
+        in_order = none_falls x (merged (by_first_column column) xs (y ∷ ys)) (merged_each (by_first_column column) xs (y ∷ ys) (all_from_first x xs f) from_y) m.in_order;
         firsts = of_more true e m.entries refl ∙ ap (λ (l : List (List ℕ)). x ∷ l) m.firsts;
         seconds = of_same false e m.entries refl ∙ m.seconds;
         ties = ties_first x m.entries m.ties;
@@ -306,41 +306,41 @@ module _ (key : List ℕ → Number) where
   -- the second's does
   takes_second :
       (x : List ℕ) (xs : List (List ℕ)) (y : List ℕ) (ys : List (List ℕ))
-      → by_key key x y ≡ false
-      → (fall (keys (x ∷ xs)) ≡ false → fall (keys ys) ≡ false → Labelled (x ∷ xs) ys (merged (by_key key) (x ∷ xs) ys))
-      → fall (keys (x ∷ xs)) ≡ false
-      → fall (keys (y ∷ ys)) ≡ false
-      → Labelled (x ∷ xs) (y ∷ ys) (y ∷ merged (by_key key) (x ∷ xs) ys)
+      → by_first_column column x y ≡ false
+      → (fall (columns (x ∷ xs)) ≡ false → fall (columns ys) ≡ false → Labelled (x ∷ xs) ys (merged (by_first_column column) (x ∷ xs) ys))
+      → fall (columns (x ∷ xs)) ≡ false
+      → fall (columns (y ∷ ys)) ≡ false
+      → Labelled (x ∷ xs) (y ∷ ys) (y ∷ merged (by_first_column column) (x ∷ xs) ys)
   takes_second x xs y ys h r f g =
-      let m = r f (fall_tail (key y) (keys ys) g) in
+      let m = r f (fall_tail (column y) (columns ys) g) in
       let e : Entry = record { is_first = false; body = y } in
-      let back : at_most (key y) (key x) ≡ true = other_way (key x) (key y) h in
-      let from_x : Each (From (key x)) (x ∷ xs) = Each.more (at_most_itself (key x)) (all_from_first x xs f) in
-      let from_y : Each (From (key y)) (x ∷ xs) = each_so (λ b p. at_most_transitive (key y) (key x) (key b) back p) from_x in
+      let back : at_most (column y) (column x) ≡ true = other_way (column x) (column y) h in
+      let from_x : Each (From (column x)) (x ∷ xs) = Each.more (at_most_itself (column x)) (all_from_first x xs f) in
+      let from_y : Each (From (column y)) (x ∷ xs) = each_so (λ b p. at_most_transitive (column y) (column x) (column b) back p) from_x in
       record {
         entries = e ∷ m.entries;
         whole = ap (λ (l : List (List ℕ)). y ∷ l) m.whole;
-        in_order = none_falls y (merged (by_key key) (x ∷ xs) ys) (merged_each (by_key key) (x ∷ xs) ys from_y (all_from_first y ys g)) m.in_order;
+        in_order = none_falls y (merged (by_first_column column) (x ∷ xs) ys) (merged_each (by_first_column column) (x ∷ xs) ys from_y (all_from_first y ys g)) m.in_order;
         firsts = of_same true e m.entries refl ∙ m.firsts;
         seconds = of_more false e m.entries refl ∙ ap (λ (l : List (List ℕ)). y ∷ l) m.seconds;
         ties = ties_second y m.entries (no_tie x y m.entries h m.firsts from_x) m.ties;
       }
 
-  labelled : (xs ys : List (List ℕ)) → fall (keys xs) ≡ false → fall (keys ys) ≡ false → Labelled xs ys (merged (by_key key) xs ys)
+  labelled : (xs ys : List (List ℕ)) → fall (columns xs) ≡ false → fall (columns ys) ≡ false → Labelled xs ys (merged (by_first_column column) xs ys)
   labelled =
-      merged_by (by_key key) (λ xs ys zs. fall (keys xs) ≡ false → fall (keys ys) ≡ false → Labelled xs ys zs)
+      merged_by (by_first_column column) (λ xs ys zs. fall (columns xs) ≡ false → fall (columns ys) ≡ false → Labelled xs ys zs)
       (λ ys f g. alone_second ys g)
       (λ x xs f g. alone_first (x ∷ xs) f)
       takes_first
       takes_second
 
   -- the four clauses
-  clauses : {xs ys zs : List (List ℕ)} → Labelled xs ys zs → IsMerge key xs ys zs
+  clauses : {xs ys zs : List (List ℕ)} → Labelled xs ys zs → IsMerge column xs ys zs
   clauses {xs} {ys} {zs} m =
       record {
         entries = m.entries;
         whole = m.whole;
-        in_order = (fall_exactly (keys zs)).0 m.in_order;
+        in_order = (fall_exactly (columns zs)).0 m.in_order;
         as_often = λ body. ap (times body) m.whole ∙ counted body m.entries ∙ ap₂ (λ (a b : List (List ℕ)). times body a + times body b) m.firsts m.seconds;
         firsts = m.firsts;
         seconds = m.seconds;
@@ -348,7 +348,7 @@ module _ (key : List ℕ → Number) where
             subst
             (λ (bs : List (List ℕ)).
             (i j : ℕ) → i < j → j < length bs
-            → value_order (get_or (keys bs) i zero_number) (get_or (keys bs) j zero_number) ≡ Equal
+            → value_order (get_or (columns bs) i zero_number) (get_or (columns bs) j zero_number) ≡ Equal
             → first_at m.entries i ≡ false
             → first_at m.entries j ≡ false)
             (sym m.whole)
@@ -357,67 +357,67 @@ module _ (key : List ℕ → Number) where
 
   -- There is only one.
 
-  -- what is merged, by its entries: they are in order, and on equal keys the first camera's stand first
+  -- what is merged, by its entries: they are in order, and on equal first columns the first camera's stand first
   one_merge :
-      (es : List Entry) → fall (keys (bodies_of es)) ≡ false → Ties es
-      → bodies_of es ≡ merged (by_key key) (of_camera true es) (of_camera false es)
+      (es : List Entry) → fall (columns (bodies_of es)) ≡ false → Ties es
+      → bodies_of es ≡ merged (by_first_column column) (of_camera true es) (of_camera false es)
   one_merge [] h t =
       sym
-      (ap₂ (merged (by_key key)) (of_none true) (of_none false) ∙ none_merged (by_key key) [])
+      (ap₂ (merged (by_first_column column)) (of_none true) (of_none false) ∙ none_merged (by_first_column column) [])
   one_merge (e ∷ es) h t =
       go e.is_first refl (of_camera true es) refl (of_camera false es) refl
-      (one_merge es (fall_tail (key e.body) (keys (bodies_of es)) h) (λ i j k l. t (suc i) (suc j) (omega arith) (omega arith)))
+      (one_merge es (fall_tail (column e.body) (columns (bodies_of es)) h) (λ i j k l. t (suc i) (suc j) (omega arith) (omega arith)))
     where
-      above : (b : List ℕ) {c : Bool} → Among c es b → at_most (key e.body) (key b) ≡ true
+      above : (b : List ℕ) {c : Bool} → Among c es b → at_most (column e.body) (column b) ≡ true
       above b a =
           let i = a.inside in
-          let n = ((fall_exactly (keys (bodies_of (e ∷ es)))).0 h).in_order 0 (suc a.place) (omega arith) (omega (arith, i, entries_count es, length-map (bodies_of (e ∷ es)) key)) in
-          sym (ap (at_most (key e.body)) (key_of_entry es a.place i ∙ ap key a.there)) ∙ n
+          let n = ((fall_exactly (columns (bodies_of (e ∷ es)))).0 h).in_order 0 (suc a.place) (omega arith) (omega (arith, i, entries_count es, length-map (bodies_of (e ∷ es)) column)) in
+          sym (ap (at_most (column e.body)) (first_column_of_entry es a.place i ∙ ap column a.there)) ∙ n
 
-      below : (b : List ℕ) → e.is_first ≡ false → Among true es b → at_most (key b) (key e.body) ≡ false
-      below b c a = other (at_most (key b) (key e.body)) refl
+      below : (b : List ℕ) → e.is_first ≡ false → Among true es b → at_most (column b) (column e.body) ≡ false
+      below b c a = other (at_most (column b) (column e.body)) refl
         where
-          other : (s : Bool) → at_most (key b) (key e.body) ≡ s → at_most (key b) (key e.body) ≡ false
+          other : (s : Bool) → at_most (column b) (column e.body) ≡ s → at_most (column b) (column e.body) ≡ false
           other false g = g
           other true g =
-              let same = equal_said (key e.body) (key b) (above b a) g in
+              let same = equal_said (column e.body) (column b) (above b a) g in
               let i = a.inside in
-              not_both a.camera (t 0 (suc a.place) (omega arith) (omega arith) (ap (value_order (key e.body)) (key_of_entry es a.place i ∙ ap key a.there) ∙ same) c)
+              not_both a.camera (t 0 (suc a.place) (omega arith) (omega arith) (ap (value_order (column e.body)) (first_column_of_entry es a.place i ∙ ap column a.there) ∙ same) c)
 
       go : (c : Bool) → e.is_first ≡ c
           → (xs : List (List ℕ)) → of_camera true es ≡ xs
           → (ys : List (List ℕ)) → of_camera false es ≡ ys
-          → bodies_of es ≡ merged (by_key key) (of_camera true es) (of_camera false es)
-          → bodies_of (e ∷ es) ≡ merged (by_key key) (of_camera true (e ∷ es)) (of_camera false (e ∷ es))
+          → bodies_of es ≡ merged (by_first_column column) (of_camera true es) (of_camera false es)
+          → bodies_of (e ∷ es) ≡ merged (by_first_column column) (of_camera true (e ∷ es)) (of_camera false (e ∷ es))
       go true c xs p [] q r =
           rw (of_more true e es c, of_same false e es (ap not c), q)
           (ap (λ (l : List (List ℕ)). e.body ∷ l)
-          (r ∙ ap (merged (by_key key) (of_camera true es)) q ∙ merged_none (by_key key) (of_camera true es))
-          ∙ sym (merged_none (by_key key) (e.body ∷ of_camera true es)))
+          (r ∙ ap (merged (by_first_column column) (of_camera true es)) q ∙ merged_none (by_first_column column) (of_camera true es))
+          ∙ sym (merged_none (by_first_column column) (e.body ∷ of_camera true es)))
       go true c xs p (y ∷ ys) q r =
           rw (of_more true e es c, of_same false e es (ap not c), q)
-          (ap (λ (l : List (List ℕ)). e.body ∷ l) (r ∙ ap (merged (by_key key) (of_camera true es)) q)
-          ∙ sym (merged_first (by_key key) (of_camera true es) ys (above y (stands false es q))))
+          (ap (λ (l : List (List ℕ)). e.body ∷ l) (r ∙ ap (merged (by_first_column column) (of_camera true es)) q)
+          ∙ sym (merged_first (by_first_column column) (of_camera true es) ys (above y (stands false es q))))
       go false c [] p ys q r =
           rw (of_same true e es c, of_more false e es (ap not c), p)
           (ap (λ (l : List (List ℕ)). e.body ∷ l)
-          (r ∙ ap (λ (l : List (List ℕ)). merged (by_key key) l (of_camera false es)) p ∙ none_merged (by_key key) (of_camera false es))
-          ∙ sym (none_merged (by_key key) (e.body ∷ of_camera false es)))
+          (r ∙ ap (λ (l : List (List ℕ)). merged (by_first_column column) l (of_camera false es)) p ∙ none_merged (by_first_column column) (of_camera false es))
+          ∙ sym (none_merged (by_first_column column) (e.body ∷ of_camera false es)))
       go false c (x ∷ xs) p ys q r =
           rw (of_same true e es c, of_more false e es (ap not c), p)
-          (ap (λ (l : List (List ℕ)). e.body ∷ l) (r ∙ ap (λ (l : List (List ℕ)). merged (by_key key) l (of_camera false es)) p)
-          ∙ sym (merged_second (by_key key) xs (of_camera false es) (below x c (stands true es p))))
+          (ap (λ (l : List (List ℕ)). e.body ∷ l) (r ∙ ap (λ (l : List (List ℕ)). merged (by_first_column column) l (of_camera false es)) p)
+          ∙ sym (merged_second (by_first_column column) xs (of_camera false es) (below x c (stands true es p))))
 
   -- so what meets the clauses
-  one_list : {xs ys zs : List (List ℕ)} → IsMerge key xs ys zs → zs ≡ merged (by_key key) xs ys
+  one_list : {xs ys zs : List (List ℕ)} → IsMerge column xs ys zs → zs ≡ merged (by_first_column column) xs ys
   one_list {xs} {ys} {zs} m =
       m.whole
-      ∙ one_merge m.entries (ap (λ (bs : List (List ℕ)). fall (keys bs)) (sym m.whole) ∙ (fall_exactly (keys zs)).1 m.in_order)
-      (λ i j k l e f. m.ties i j k (omega (arith, l, ap length m.whole, entries_count m.entries)) (ap (λ (bs : List (List ℕ)). value_order (get_or (keys bs) i zero_number) (get_or (keys bs) j zero_number)) m.whole ∙ e) f)
-      ∙ ap₂ (merged (by_key key)) m.firsts m.seconds
+      ∙ one_merge m.entries (ap (λ (bs : List (List ℕ)). fall (columns bs)) (sym m.whole) ∙ (fall_exactly (columns zs)).1 m.in_order)
+      (λ i j k l e f. m.ties i j k (omega (arith, l, ap length m.whole, entries_count m.entries)) (ap (λ (bs : List (List ℕ)). value_order (get_or (columns bs) i zero_number) (get_or (columns bs) j zero_number)) m.whole ∙ e) f)
+      ∙ ap₂ (merged (by_first_column column)) m.firsts m.seconds
 
   -- Published: of two lists that do not fall, the one that is computed and no other is merged by the four clauses.
   pub merge_exactly :
-      {xs ys : List (List ℕ)} → NeverFall (keys xs) → NeverFall (keys ys) → (zs : List (List ℕ)) → IsMerge key xs ys zs ↔ (zs ≡ merged (by_key key) xs ys)
+      {xs ys : List (List ℕ)} → NeverFall (columns xs) → NeverFall (columns ys) → (zs : List (List ℕ)) → IsMerge column xs ys zs ↔ (zs ≡ merged (by_first_column column) xs ys)
   merge_exactly {xs} {ys} f g zs =
-      (one_list, λ e. subst (IsMerge key xs ys) (sym e) (clauses (labelled xs ys ((fall_exactly (keys xs)).1 f) ((fall_exactly (keys ys)).1 g))))
+      (one_list, λ e. subst (IsMerge column xs ys) (sym e) (clauses (labelled xs ys ((fall_exactly (columns xs)).1 f) ((fall_exactly (columns ys)).1 g))))

@@ -18,22 +18,23 @@ use Rattle.codec.specs.Contents.{Table, contents_bytes, read_contents}
 use Rattle.codec.proofs.ContentsTheorem.{contents_exactly}
 use Rattle.codec.specs.Unpacking.{unpack_body}
 use Rattle.codec.proofs.FrontLaws.{contents_same}
-use Rattle.records.specs.Files.{read_file, record_count, bodies_in, shown_part}
-use Rattle.records.proofs.BodiesLaws.{records_count}
-use Rattle.records.proofs.FileLaws.{file_told, within_told}
-use Rattle.records.proofs.FileTheorem.{record_at}
+use Rattle.records.specs.Files.RecordFile.{read_file, record_count, bodies_in, shown_part}
+use Rattle.records.proofs.FileProofs.BodiesLaws.{records_count}
+use Rattle.records.proofs.FileProofs.FileLaws.{file_told, within_told}
+use Rattle.records.proofs.FileProofs.FileTheorem.{record_at}
 use Rattle.rolls.specs.Falling.{NeverFall, fall}
-use Rattle.rolls.specs.Merging.{of_camera, WholeFile, contents_in, common_table, IsMerge, key_of, by_key, merged, file_with, merged_file, merging}
+use Rattle.rolls.specs.Merging.{of_camera, WholeFile, contents_in, common_table, IsMerge, first_column_of, by_first_column, merged, file_with, merged_file, merging}
 use Rattle.rolls.specs.MergedFiles.{Mergeable, MergedFile, HasRecord}
 use Rattle.rolls.proofs.FallTheorem.{fall_exactly}
 use Rattle.rolls.proofs.PageLaws.{kind_fine}
-use Rattle.records.proofs.JoinedLaws.{Each}
+use Rattle.records.proofs.FileProofs.JoinedLaws.{Each}
 use Rattle.rolls.proofs.MergeLaws.{merged_each, merged_length, merged_joined, merged_none, none_merged}
 use Rattle.rolls.proofs.MergeTheorem.{merge_exactly, entries_count, camera_stands}
 use Rattle.rolls.proofs.MergeCallLaws.{whole_fine, pair_fine}
-use Rattle.records.proofs.JoinedLaws.{Sized, bodies_joined_are}
+use Rattle.records.proofs.FileProofs.JoinedLaws.{Sized, bodies_joined_are}
 use Rattle.rolls.proofs.MergePairLaws.{common_view}
-use Rattle.rolls.proofs.MergeFileLaws.{BodyRead, each_read, made_reads, made_contents, made_bodies, read_sized, keys_are}
+use Rattle.rolls.proofs.FirstColumnLaws.{BodyRead, each_read, read_sized, first_columns_are}
+use Rattle.rolls.proofs.MergeFileLaws.{made_reads, made_contents, made_bodies}
 
 -- What is asked.
 
@@ -43,7 +44,7 @@ unfolding merged_file
 mergeable_of first second h =
     let t =
     then_done (common_table first second)
-    (λ (t : Table). done (file_with (contents_in t first) (merged (by_key (key_of t.images)) (bodies_in t first) (bodies_in t second))))
+    (λ (t : Table). done (file_with (contents_in t first) (merged (by_first_column (first_column_of t.images)) (bodies_in t first) (bodies_in t second))))
     h in
     (common_view first second t.first).0
 
@@ -51,8 +52,8 @@ module _ {first second : List ℕ} (m : Mergeable first second) where
   abbrev table : Table
   table = m.table
 
-  abbrev key : List ℕ → Number
-  key = key_of table.images
+  abbrev column : List ℕ → Number
+  column = first_column_of table.images
 
   abbrev xs : List (List ℕ)
   xs = bodies_in table first
@@ -62,28 +63,28 @@ module _ {first second : List ℕ} (m : Mergeable first second) where
 
   -- the bodies of both merged
   abbrev pub zs : List (List ℕ)
-  zs = merged (by_key key) xs ys
+  zs = merged (by_first_column column) xs ys
 
   -- the file that is computed
   abbrev pub result : List ℕ
   result = file_with (contents_in table first) zs
 
-  -- the keys of both
-  first_keys_are : m.first_keys ≡ map key xs
-  first_keys_are = keys_are table.images xs m.first_read
+  -- the first columns of both
+  first_file_columns_are : m.first_file_columns ≡ map column xs
+  first_file_columns_are = first_columns_are table.images xs m.first_read
 
-  second_keys_are : m.second_keys ≡ map key ys
-  second_keys_are = keys_are table.images ys m.second_read
+  second_file_columns_are : m.second_file_columns ≡ map column ys
+  second_file_columns_are = first_columns_are table.images ys m.second_read
 
-  pub first_falls_not : NeverFall (map key xs)
-  first_falls_not = subst NeverFall first_keys_are m.first_order
+  pub first_falls_not : NeverFall (map column xs)
+  first_falls_not = subst NeverFall first_file_columns_are m.first_order
 
-  pub second_falls_not : NeverFall (map key ys)
-  second_falls_not = subst NeverFall second_keys_are m.second_order
+  pub second_falls_not : NeverFall (map column ys)
+  second_falls_not = subst NeverFall second_file_columns_are m.second_order
 
   -- the bodies of both are read, so that each merged one is
   pub all_read : Each (BodyRead table.images) zs
-  all_read = merged_each (by_key key) xs ys (each_read table.images xs m.first_read) (each_read table.images ys m.second_read)
+  all_read = merged_each (by_first_column column) xs ys (each_read table.images xs m.first_read) (each_read table.images ys m.second_read)
 
   all_sized : Each (Sized (body_size table.images)) zs
   all_sized = read_sized table.images zs all_read
@@ -92,12 +93,12 @@ module _ {first second : List ℕ} (m : Mergeable first second) where
   pub merges_to : merged_file first second ≡ done result
   unfolding merged_file common_table ◌then◌
   merges_to =
-      let one : WholeFile = record { table = table; falls = fall m.first_keys } in
-      let two : WholeFile = record { table = table; falls = fall m.second_keys } in
-      let none : (fall m.first_keys || fall m.second_keys) ≡ false =
-      ap₂ (λ (a b : Bool). a || b) ((fall_exactly m.first_keys).1 m.first_order) ((fall_exactly m.second_keys).1 m.second_order) in
+      let one : WholeFile = record { table = table; falls = fall m.first_file_columns } in
+      let two : WholeFile = record { table = table; falls = fall m.second_file_columns } in
+      let none : (fall m.first_file_columns || fall m.second_file_columns) ≡ false =
+      ap₂ (λ (a b : Bool). a || b) ((fall_exactly m.first_file_columns).1 m.first_order) ((fall_exactly m.second_file_columns).1 m.second_order) in
       let fine =
-      pair_fine (contents_in table first) (contents_in table second) table.images (fall m.first_keys || fall m.second_keys)
+      pair_fine (contents_in table first) (contents_in table second) table.images (fall m.first_file_columns || fall m.second_file_columns)
       (record { same = m.contents; kind = kind_fine table.images m.kind; stands = none }) in
       rw (whole_fine first m.first_file m.first_read, whole_fine second m.second_file m.second_read, fine) refl
 
@@ -114,7 +115,7 @@ module _ {first second : List ℕ} (m : Mergeable first second) where
         table = table;
         reads = result_reads;
         contents = made_contents first m.first_file zs all_sized;
-        records = subst (IsMerge key xs ys) (sym result_bodies) ((merge_exactly key first_falls_not second_falls_not zs).1 refl);
+        records = subst (IsMerge column xs ys) (sym result_bodies) ((merge_exactly column first_falls_not second_falls_not zs).1 refl);
       }
 
   -- and no other is
@@ -123,11 +124,11 @@ module _ {first second : List ℕ} (m : Mergeable first second) where
       let told = file_told file f.reads in
       let same : f.table ≡ table =
       one_answer (contents_same file first told.contents (sym f.contents)) (file_told first m.first_file).contents in
-      let records = subst (λ (t : Table). IsMerge (key_of t.images) (bodies_in t first) (bodies_in t second) (bodies_in t file)) same f.records in
+      let records = subst (λ (t : Table). IsMerge (first_column_of t.images) (bodies_in t first) (bodies_in t second) (bodies_in t file)) same f.records in
       sym (take-append-drop f.table.size file)
       ∙ ap₂ (λ (a b : List ℕ). a ++ b) f.contents (sym (bodies_joined_are f.table file f.reads))
       ∙ ap (λ (t : Table). file_with (contents_in t first) (bodies_in t file)) same
-      ∙ ap (file_with (contents_in table first)) ((merge_exactly key first_falls_not second_falls_not (bodies_in table file)).0 records)
+      ∙ ap (file_with (contents_in table first)) ((merge_exactly column first_falls_not second_falls_not (bodies_in table file)).0 records)
 
 -- Published: two files are merged exactly where all that is asked of them holds, and the result is then their merged file by the four clauses.
 pub merged_exactly : (first second file : List ℕ) → (merged_file first second ≡ done file) ↔ (Mergeable first second × MergedFile first second file)
@@ -179,7 +180,7 @@ module _ {first second file : List ℕ} (h : merged_file first second ≡ done f
   pub merged_reads : read_file file ≡ done m.table
   merged_reads = ap read_file file_is ∙ result_reads m
 
-  pub merged_bodies : bodies_in m.table file ≡ merged (by_key (key_of m.table.images)) (bodies_in m.table first) (bodies_in m.table second)
+  pub merged_bodies : bodies_in m.table file ≡ merged (by_first_column (first_column_of m.table.images)) (bodies_in m.table first) (bodies_in m.table second)
   merged_bodies = ap (bodies_in m.table) file_is ∙ result_bodies m
 
   -- Published: its record count is the sum.
@@ -187,7 +188,7 @@ module _ {first second file : List ℕ} (h : merged_file first second ≡ done f
   count_added =
       sym (records_count m.table file)
       ∙ ap length merged_bodies
-      ∙ merged_length (by_key (key_of m.table.images)) (bodies_in m.table first) (bodies_in m.table second)
+      ∙ merged_length (by_first_column (first_column_of m.table.images)) (bodies_in m.table first) (bodies_in m.table second)
       ∙ ap₂ (λ (a b : ℕ). a + b) (records_count m.table first) (records_count m.table second)
 
   -- Published: the contents stands in it once, and else it has the bytes of both.
@@ -204,7 +205,7 @@ module _ {first second file : List ℕ} (h : merged_file first second ≡ done f
         ap length file_is,
         length-append (contents_in m.table first) (concat (zs m)),
         length-take-le m.table.size first f.within,
-        merged_joined (by_key (key_of m.table.images)) (bodies_in m.table first) (bodies_in m.table second),
+        merged_joined (by_first_column (first_column_of m.table.images)) (bodies_in m.table first) (bodies_in m.table second),
         joined first m.first_file,
         joined second m.second_file,
         length-drop m.table.size first,
@@ -223,17 +224,17 @@ module _ {first second file : List ℕ} (h : merged_file first second ≡ done f
       × ((r : ℕ) → r < record_count m.table second → HasRecord m.table file (shown_part second r))
   records_kept = (kept true first m.first_file labels.firsts, kept false second m.second_file labels.seconds)
     where
-      labels : IsMerge (key_of m.table.images) (bodies_in m.table first) (bodies_in m.table second) (bodies_in m.table file)
+      labels : IsMerge (first_column_of m.table.images) (bodies_in m.table first) (bodies_in m.table second) (bodies_in m.table file)
       labels =
-          subst (IsMerge (key_of m.table.images) (bodies_in m.table first) (bodies_in m.table second)) (sym merged_bodies)
-          ((merge_exactly (key_of m.table.images) (first_falls_not m) (second_falls_not m) _).1 refl)
+          subst (IsMerge (first_column_of m.table.images) (bodies_in m.table first) (bodies_in m.table second)) (sym merged_bodies)
+          ((merge_exactly (first_column_of m.table.images) (first_falls_not m) (second_falls_not m) _).1 refl)
 
       kept : (c : Bool) (one : List ℕ) → read_file one ≡ done m.table → of_camera c labels.entries ≡ bodies_in m.table one
           → (r : ℕ) → r < record_count m.table one → HasRecord m.table file (shown_part one r)
       kept c one reads same r l =
           let a = camera_stands c labels.entries r (omega (arith, ap length same, records_count m.table one)) in
           let i = a.inside in
-          has_record a.place (omega (arith, i, entries_count (key_of m.table.images) labels.entries, ap length labels.whole))
+          has_record a.place (omega (arith, i, entries_count (first_column_of m.table.images) labels.entries, ap length labels.whole))
           (ap (λ (bs : List (List ℕ)). get_or bs a.place []) labels.whole
           ∙ a.there
           ∙ ap (λ (bs : List (List ℕ)). get_or bs r []) same
@@ -256,14 +257,14 @@ module _ {first second file : List ℕ} (h : merged_file first second ≡ done f
         let no : bodies_in m.table first ≡ [] = nil_from_length (bodies_in m.table first) (records_count m.table first ∙ none) in
         file_is
         ∙ ap₂ file_with m.contents
-        (ap (λ (bs : List (List ℕ)). merged (by_key (key_of m.table.images)) bs (bodies_in m.table second)) no
-        ∙ none_merged (by_key (key_of m.table.images)) (bodies_in m.table second))
+        (ap (λ (bs : List (List ℕ)). merged (by_first_column (first_column_of m.table.images)) bs (bodies_in m.table second)) no
+        ∙ none_merged (by_first_column (first_column_of m.table.images)) (bodies_in m.table second))
         ∙ contents_and m.second_file),
     (λ none.
         let no : bodies_in m.table second ≡ [] = nil_from_length (bodies_in m.table second) (records_count m.table second ∙ none) in
         file_is
         ∙ ap (file_with (contents_in m.table first))
-        (ap (merged (by_key (key_of m.table.images)) (bodies_in m.table first)) no
-        ∙ merged_none (by_key (key_of m.table.images)) (bodies_in m.table first))
+        (ap (merged (by_first_column (first_column_of m.table.images)) (bodies_in m.table first)) no
+        ∙ merged_none (by_first_column (first_column_of m.table.images)) (bodies_in m.table first))
         ∙ contents_and m.first_file),
   )

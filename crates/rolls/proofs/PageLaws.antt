@@ -11,7 +11,7 @@ use Rattle.decimal.proofs.AnswerLaws.{never, never_done, then_done}
 use Rattle.codec.specs.Lists.{no_image}
 use Rattle.codec.specs.Order.{UnsignedFixed}
 use Rattle.rolls.specs.Falling.{fall}
-use Rattle.rolls.specs.Searching.{check_numbers, is_unsigned_fixed, check_kind, refuse_where, check_page}
+use Rattle.rolls.specs.Searching.{check_numbers, is_unsigned_fixed, check_kind, refuse_where, check_positions, check_page}
 
 -- a test that was passed
 pub passed : (b : Bool) (number : ℕ) → pick {A = Answer (Unit {0})} b (done tt) (refused number 0) ≡ done tt → b ≡ true
@@ -75,30 +75,36 @@ all_normal ps h i l = numbers_normal 0 ps h i l
 
 -- What is asked of a page.
 
-module _ (ims : List Image) (ps : List Number) (falls : Bool) where
+module _ (ims : List Image) (ps : List Number) where
   -- 3
-  pub page_abnormal : {x y : ℕ} → check_numbers 0 ps ≡ refused x y → check_page ims ps falls ≡ refused x y
-  unfolding check_page ◌then◌
+  pub page_abnormal : {x y : ℕ} → check_numbers 0 ps ≡ refused x y → check_positions ims ps ≡ refused x y
+  unfolding check_positions ◌then◌
   page_abnormal h = rw h
 
   module _ (normals : check_numbers 0 ps ≡ done tt) where
     -- 16
-    pub page_kind : {x y : ℕ} → check_kind ims ≡ refused x y → check_page ims ps falls ≡ refused x y
-    unfolding check_page ◌then◌
+    pub page_kind : {x y : ℕ} → check_kind ims ≡ refused x y → check_positions ims ps ≡ refused x y
+    unfolding check_positions ◌then◌
     page_kind k = rw (normals, k)
 
-    module _ (kind : check_kind ims ≡ done tt) where
-      -- 14
-      pub page_positions : fall ps ≡ true → check_page ims ps falls ≡ refused 14 0
-      unfolding check_page refuse_where ◌then◌
-      page_positions f = rw (normals, kind, f)
+    -- 14, or nothing
+    pub page_positions : check_kind ims ≡ done tt → check_positions ims ps ≡ refuse_where (fall ps) 14
+    unfolding check_positions ◌then◌
+    page_positions k = rw (normals, k)
 
-      -- 15, or nothing
-      pub page_records : fall ps ≡ false → check_page ims ps falls ≡ refuse_where falls 15
-      unfolding check_page refuse_where ◌then◌
-      page_records f = rw (normals, kind, f)
+  -- and 15 behind them
+  pub page_parts : (falls : Bool) → check_page ims ps falls ≡ (check_positions ims ps then λ _. refuse_where falls 15)
+  unfolding check_page check_positions ◌then◌
+  page_parts falls = go (check_numbers 0 ps) (check_kind ims)
+    where
+      go : (a b : Answer (Unit {0}))
+          → (a then λ _. (b then λ _. (refuse_where (fall ps) 14 then λ _. refuse_where falls 15)))
+          ≡ ((a then λ _. (b then λ _. refuse_where (fall ps) 14)) then λ _. refuse_where falls 15)
+      go (refused x y) b = refl
+      go (done u) (refused x y) = refl
+      go (done u) (done v) = refl
 
-      -- nothing
-      pub page_fine : fall ps ≡ false → falls ≡ false → check_page ims ps falls ≡ done tt
-      unfolding check_page refuse_where ◌then◌
-      page_fine f r = rw (normals, kind, f, r)
+  -- nothing is refused
+  pub page_fine : {falls : Bool} → check_numbers 0 ps ≡ done tt → check_kind ims ≡ done tt → fall ps ≡ false → falls ≡ false → check_page ims ps falls ≡ done tt
+  unfolding check_page refuse_where ◌then◌
+  page_fine n k f r = rw (n, k, f, r)

@@ -18,10 +18,10 @@ use Rattle.decimal.proofs.RefusalLaws.{RefusesOnly, only_done, only_refused, onl
 use Rattle.codec.specs.Lists.{no_image}
 use Rattle.codec.specs.Unpacking.{unpack_body}
 use Rattle.codec.proofs.RefusalLaws.{body_refusals}
-use Rattle.records.specs.Files.{read_file, bodies_in}
-use Rattle.records.proofs.RefusalLaws.{file_refusals}
+use Rattle.records.specs.Files.RecordFile.{read_file, bodies_in}
+use Rattle.records.proofs.FileProofs.RefusalLaws.{file_refusals}
 use Rattle.rolls.specs.Falling.{fall}
-use Rattle.rolls.specs.Searching.{max_positions, keys_of, keys_in, check_count, check_numbers, is_unsigned_fixed, check_kind, refuse_where, check_page, searching}
+use Rattle.rolls.specs.Searching.{max_positions, first_columns_of, first_columns_in, check_count, check_numbers, is_unsigned_fixed, check_kind, refuse_where, check_page, searching}
 use Rattle.codec.specs.Answers.{within}
 use Rattle.rolls.specs.Finding.{Refusable}
 use Rattle.rolls.specs.Merging.{read_whole, contents_in, check_pair, common_table, merged_file, merging}
@@ -29,13 +29,13 @@ use Rattle.rolls.specs.MergedFiles.{PairRefusable, MergeRefusable}
 use Rattle.rolls.proofs.MergedTheorem.{merged_exactly, length_added}
 
 -- the records
-keys_refusals :
-    {R : ℕ → ℕ → Type 0} → ((column : ℕ) → R 7 column) → R 11 0 → (ims : List Image) (bs : List (List ℕ)) → RefusesOnly R (keys_of ims bs)
-unfolding keys_of
-keys_refusals half size ims [] = only_done
-keys_refusals half size ims (b ∷ bs) =
+first_columns_refusals :
+    {R : ℕ → ℕ → Type 0} → ((column : ℕ) → R 7 column) → R 11 0 → (ims : List Image) (bs : List (List ℕ)) → RefusesOnly R (first_columns_of ims bs)
+unfolding first_columns_of
+first_columns_refusals half size ims [] = only_done
+first_columns_refusals half size ims (b ∷ bs) =
     only_then (unpack_body ims b) (body_refusals half ims b size)
-    (λ ns. only_then (keys_of ims bs) (keys_refusals half size ims bs) (λ keys. only_done))
+    (λ ns. only_then (first_columns_of ims bs) (first_columns_refusals half size ims bs) (λ columns. only_done))
 
 -- the positions
 numbers_refusals : (index : ℕ) (ps : List Number) → RefusesOnly Refusable (check_numbers index ps)
@@ -60,8 +60,8 @@ call_refusals file ps =
     only_then (read_file file)
     (file_refusals (λ column. Refusable.no_image_lem) (λ column. Refusable.many_digits) Refusable.wrong_length file Refusable.wrong_count)
     (λ table. only_then (check_count ps) (only_choice (leb (length ps) max_positions) only_done (only_refused Refusable.wrong_count))
-    (λ _. only_then (keys_in table file) (keys_refusals (λ column. Refusable.bad_half) Refusable.wrong_length table.images (bodies_in table file))
-    (λ keys. only_then (check_page table.images ps (fall keys)) (page_refusals table.images ps (fall keys)) (λ _. only_done))))
+    (λ _. only_then (first_columns_in table file) (first_columns_refusals (λ column. Refusable.bad_half) Refusable.wrong_length table.images (bodies_in table file))
+    (λ columns. only_then (check_page table.images ps (fall columns)) (page_refusals table.images ps (fall columns)) (λ _. only_done))))
 
 -- Published: the call gives these refusals and no others.
 pub search_refusals : (file : List ℕ) (ps : List Number) {number place : ℕ} → searching file ps ≡ refused number place → Refusable number place
@@ -75,8 +75,8 @@ unfolding read_whole
 whole_refusals file =
     only_then (read_file file)
     (file_refusals (λ column. PairRefusable.no_image_lem) (λ column. PairRefusable.many_digits) PairRefusable.wrong_length file PairRefusable.wrong_count)
-    (λ table. only_then (keys_in table file) (keys_refusals (λ column. PairRefusable.bad_half) PairRefusable.wrong_length table.images (bodies_in table file))
-    (λ keys. only_done))
+    (λ table. only_then (first_columns_in table file) (first_columns_refusals (λ column. PairRefusable.bad_half) PairRefusable.wrong_length table.images (bodies_in table file))
+    (λ columns. only_done))
 
 -- two files
 pair_refusals : (contents other : List ℕ) (ims : List Image) (falls : Bool) → RefusesOnly PairRefusable (check_pair contents other ims falls)

@@ -1,21 +1,47 @@
--- Laws of the walk, one comparison after the other. Assumes nothing.
-use Rattle.std.proofs.Common.{◌≡◌, ℕ, suc, ◌+◌, ◌<◌, ◌≤◌, true, false, List, [], ◌∷◌, ◌++◌, length, drop, get_or, add-one, refl, ap, ap₂, sym, subst, ◌∙◌, arith, drop-cons, append_assoc, append-nil}
+-- Laws of the walk, one position after the other. Assumes nothing.
+use Rattle.std.proofs.Common.{◌≡◌, ℕ, zero, suc, ◌+◌, ◌*◌, ◌/◌, ◌%◌, ◌<◌, ◌≤◌, Bool, true, false, not, List, [], ◌∷◌, ◌++◌, Option, length, map, drop, get_or, add-one, refl, ap, ap₂, sym, subst, ◌∙◌, arith, drop-cons, append_assoc, append-nil, zero-mul}
+use Rattle.std.proofs.lemmas.List.{length-map}
+use Rattle.std.specs.List.{drop-map}
+use native.Mathlib.Nat.{add-mul}
+use Rattle.std.proofs.Math.Nat.{mul-le-mul_left}
+use Rattle.std.proofs.lemmas.List.{get_or_default}
+use Rattle.std.proofs.Common.{length-append}
 use lib.ListN.{drop_of_length-le}
+use lib.Dec.{eqb}
+use mir.Val.{bool_byte}
+use borrow.Author.Tests.{eqb-true}
+use Rattle.decimal.specs.declared.image.Image.{Image}
 use Rattle.decimal.specs.declared.number.Number.{Number}
 use Rattle.decimal.specs.Answer.{done}
 use Rattle.decimal.specs.Number.{zero_number, normal}
-use Rattle.rolls.specs.Falling.{at_most, normal_at_most}
-use Rattle.rolls.specs.Searching.{Search, giving, comparing, walk, check_numbers}
-use Rattle.rolls.proofs.FallLaws.{both_normal}
+use Rattle.codec.specs.Columns.{column_size, body_size, Checked}
+use Rattle.codec.specs.Lists.{no_image}
+use Rattle.codec.specs.Order.{UnsignedFixed, Bytes}
+use Rattle.codec.specs.Ordering.{LeastRun}
+use Rattle.codec.proofs.ContentsLaws.{checked_at}
+use Rattle.codec.proofs.FrontLaws.{body_some}
+use Rattle.records.proofs.FileProofs.JoinedLaws.{Each, each_bytes}
+use Rattle.rolls.specs.Falling.{at_most}
+use Rattle.rolls.specs.Merging.{first_column_of}
+use Rattle.rolls.specs.Searching.{Search, giving, comparing, walk, first_record, check_numbers}
+use Rattle.rolls.specs.Runs.{all_bodies, runs_in, first_reaching, Ordered}
+use Rattle.rolls.proofs.FilledLaws.{Filled, filled_whole, filled_rest, Dropped, filled_drop, filled_none, filled_next}
+use Rattle.rolls.proofs.FindTheorem.{first_here, first_later, first_none, is_first}
+use Rattle.rolls.proofs.FirstColumnLaws.{each_read}
+use Rattle.rolls.proofs.FirstColumnOrder.{first_image, FirstColumn, first_columns}
 use Rattle.rolls.proofs.PageLaws.{all_normal}
+use Rattle.rolls.proofs.RunLaws.{first_reaches}
 
 -- The steps of the walk.
 
 module _ (r : ℕ) (p : Number) (ps : List Number) where
   -- the record is at least as large: the next position
-  walk_reached : (k : Number) (ks : List Number) → at_most p k ≡ true → walk r (p ∷ ps) (k ∷ ks) ≡ comparing (giving r (walk r ps (k ∷ ks)))
-  unfolding walk
-  walk_reached k ks h = rw h
+  walk_reached :
+      (k : Number) (ks : List Number)
+      → at_most p k ≡ true
+      → walk r (p ∷ ps) (k ∷ ks) ≡ record { records = r ∷ (walk r ps (k ∷ ks)).records; comparisons = 1 + (walk r ps (k ∷ ks)).comparisons }
+  unfolding walk giving comparing
+  walk_reached k ks h = rw h (ap (λ (n : ℕ). record { records = r ∷ (walk r ps (k ∷ ks)).records; comparisons = n }) (omega arith))
 
   -- else the next record
   walk_passed : (k : Number) (ks : List Number) → at_most p k ≡ false → walk r (p ∷ ps) (k ∷ ks) ≡ comparing (walk (suc r) (p ∷ ps) ks)
@@ -23,14 +49,9 @@ module _ (r : ℕ) (p : Number) (ps : List Number) where
   walk_passed k ks h = rw h
 
   -- a position left over
-  walk_left : walk r (p ∷ ps) [] ≡ giving r (walk r ps [])
-  unfolding walk
-  walk_left = refl
-
--- nothing is given where no position is left
-walk_none : (r s : ℕ) (ks ls : List Number) → walk r [] ks ≡ walk s [] ls
-unfolding walk
-walk_none r s ks ls = refl
+  walk_left : walk r (p ∷ ps) [] ≡ record { records = r ∷ (walk r ps []).records; comparisons = 0 + (walk r ps []).comparisons }
+  unfolding walk giving
+  walk_left = ap (λ (n : ℕ). record { records = r ∷ (walk r ps []).records; comparisons = n }) (omega arith)
 
 -- A walk behind what was found before it.
 
@@ -38,15 +59,10 @@ abbrev pub joined : List ℕ → ℕ → Search → Search
 joined given compared s = record { records = given ++ s.records; comparisons = compared + s.comparisons }
 
 module _ (given : List ℕ) (compared : ℕ) where
-  -- a record given is found before
-  joined_giving : (r : ℕ) (s : Search) → joined (given ++ r ∷ []) compared s ≡ joined given compared (giving r s)
-  unfolding giving
-  joined_giving r s = ap (λ (l : List ℕ). record { records = l; comparisons = compared + s.comparisons }) (append_assoc given (r ∷ []) s.records)
-
-  -- so is a comparison made
-  joined_comparing : (s : Search) → joined given (compared + 1) s ≡ joined given compared (comparing s)
-  unfolding comparing
-  joined_comparing s = ap (λ (n : ℕ). record { records = given ++ s.records; comparisons = n }) (omega arith)
+  -- what was found in two parts
+  joined_joined : (more : List ℕ) (others : ℕ) (s : Search) → joined given compared (joined more others s) ≡ joined (given ++ more) (compared + others) s
+  joined_joined more others s =
+      ap₂ (λ (l : List ℕ) (n : ℕ). record { records = l; comparisons = n }) (sym (append_assoc given more s.records)) (omega arith)
 
   -- nothing behind it
   joined_none : (r : ℕ) (ks : List Number) → joined given compared (walk r [] ks) ≡ record { records = given; comparisons = compared }
@@ -57,104 +73,233 @@ module _ (given : List ℕ) (compared : ℕ) where
 joined_first : (s : Search) → joined [] 0 s ≡ s
 joined_first s = ap (λ (n : ℕ). record { records = s.records; comparisons = n }) (omega arith)
 
--- The walk over the keys that were read: what was found, and what the walk over the front and any others finds for the positions left, is
--- the whole.
-pub record Walking (ps ks front left : List Number) (r compared : ℕ) (given : List ℕ) : Type 0 where
-  pub whole : (others : List Number) → joined given compared (walk r left (front ++ others)) ≡ walk 0 ps (ks ++ (front ++ others))
-  pub normals : (i : ℕ) → i < length left → normal (get_or left i zero_number) ≡ true
+-- the comparison with the record that is found, where there is one
+abbrev pub found_one : List Number → ℕ
+found_one [] = 0
+found_one (k ∷ ks) = 1
 
--- at the start
-pub walking_starts : (ps : List Number) → check_numbers 0 ps ≡ done tt → Walking ps [] [] ps 0 0 []
-walking_starts ps h = record { whole = λ others. joined_first (walk 0 ps others); normals = all_normal ps h }
+-- what the walk finds where so many records stand before the position's own: they are compared, and its own, where there is one
+abbrev pub behind_position : ℕ → List Number → List Number → ℕ → Search
+behind_position r ps ks c = joined ((r + c) ∷ []) (c + found_one (drop c ks)) (walk (r + c) ps (drop c ks))
 
--- the same walk in other words
-pub walking_same :
-    {ps ks front left left_now : List Number} {r compared compared_now : ℕ} {given given_now : List ℕ}
-    → left_now ≡ left
-    → compared_now ≡ compared
-    → given_now ≡ given
-    → Walking ps ks front left r compared given
-    → Walking ps ks front left_now r compared_now given_now
-walking_same {front = front} {r = r} l n g w =
+-- none stands before it
+none_before : (r : ℕ) (ps ks : List Number) → record { records = r ∷ (walk r ps ks).records; comparisons = found_one ks + (walk r ps ks).comparisons } ≡ behind_position r ps ks 0
+none_before r ps ks =
+    ap₂ (λ (m n : ℕ). joined (m ∷ []) n (walk m ps ks)) (omega arith) (omega arith)
+
+-- one more does
+one_before :
+    (r : ℕ) (k : Number) (ps ks : List Number) (c : ℕ) → comparing (behind_position (suc r) ps ks c) ≡ behind_position r ps (k ∷ ks) (suc c)
+unfolding comparing
+one_before r k ps ks c =
+    let n : ℕ = found_one (drop c ks) in
+    let place : suc r + c ≡ r + suc c = omega arith in
+    ap (λ (m : ℕ). record { records = m ∷ (walk m ps (drop c ks)).records; comparisons = suc (c + n + (walk m ps (drop c ks)).comparisons) }) place
+    ∙ ap (λ (m : ℕ). record { records = (r + suc c) ∷ (walk (r + suc c) ps (drop c ks)).records; comparisons = m }) (omega arith)
+
+-- one position
+walk_position : (r : ℕ) (p : Number) (ps ks : List Number) → walk r (p ∷ ps) ks ≡ behind_position r ps ks (first_record ks p)
+walk_position r p ps [] = walk_left r p ps ∙ none_before r ps [] ∙ ap (behind_position r ps []) (sym (first_none p))
+walk_position r p ps (k ∷ ks) = go (at_most p k) refl (walk_position (suc r) p ps ks)
+  where
+    go : (b : Bool) → at_most p k ≡ b → walk (suc r) (p ∷ ps) ks ≡ behind_position (suc r) ps ks (first_record ks p)
+        → walk r (p ∷ ps) (k ∷ ks) ≡ behind_position r ps (k ∷ ks) (first_record (k ∷ ks) p)
+    go true h others =
+        walk_reached r p ps k ks h ∙ none_before r ps (k ∷ ks) ∙ ap (behind_position r ps (k ∷ ks)) (sym (first_here k ks p h))
+    go false h others =
+        walk_passed r p ps k ks h
+        ∙ ap comparing others
+        ∙ one_before r k ps ks (first_record ks p)
+        ∙ ap (behind_position r ps (k ∷ ks)) (sym (first_later k ks p h))
+
+-- The walk over a file's records.
+
+-- what is found for the positions before an index, and what the walk finds for the others in the bodies that are left, is the whole
+pub record Walking (ims : List Image) (all : List ℕ) (ps : List Number) (left : List ℕ) (index r compared : ℕ) (given : List ℕ) : Type 0 where
+  pub filled : Filled (body_size ims) left
+  pub reached : length left + r * body_size ims ≡ length all
+  pub each : Each (FirstColumn ims) (all_bodies (body_size ims) left)
+  pub whole :
+      joined given compared (walk r (drop index ps) (map (first_column_of ims) (all_bodies (body_size ims) left)))
+      ≡ walk 0 ps (map (first_column_of ims) (all_bodies (body_size ims) all))
+  pub settled : length given ≡ index
+  pub few : compared ≤ r + index
+
+-- what is known of bodies that can be compared
+pub record Told (ims : List Image) (bytes : List ℕ) : Type 0 where
+  pub checked : Checked (first_image ims)
+  pub some : 0 < body_size ims
+  pub width : column_size (first_image ims) ≤ body_size ims
+  pub filled : Filled (body_size ims) bytes
+  pub each : Each (FirstColumn ims) (all_bodies (body_size ims) bytes)
+
+-- a column is not longer than a body
+pub column_within : (ims : List Image) → 1 ≤ length ims → column_size (first_image ims) ≤ body_size ims
+unfolding body_size
+column_within [] low = absurd (omega arith)
+column_within (im ∷ ims) low = omega arith
+
+pub ordered_told : {ims : List Image} {bytes : List ℕ} → Ordered ims bytes → Bytes bytes → Told ims bytes
+ordered_told {ims} {bytes} o known =
     record {
-      whole = λ others. (λ i. joined (g i) (n i) (walk r (l i) (front ++ others))) ∙ w.whole others;
-      normals = subst (λ (x : List Number). (i : ℕ) → i < length x → normal (get_or x i zero_number) ≡ true) (sym l) w.normals;
+      checked = checked_at o.sound.all 0 no_image (omega (arith, o.sound.low));
+      some = body_some o.sound.all o.sound.low;
+      width = column_within ims o.sound.low;
+      filled = filled_whole (body_size ims) bytes o.whole;
+      each =
+          first_columns ims (all_bodies (body_size ims) bytes) o.sound.low
+          (each_bytes (length bytes / body_size ims) (body_size ims) bytes known)
+          (each_read ims (all_bodies (body_size ims) bytes) o.read);
     }
 
--- a key is read
-pub walking_reads :
-    {ps ks left : List Number} {r compared : ℕ} {given : List ℕ} (k : Number)
-    → Walking ps ks [] left r compared given
-    → Walking ps ks (k ∷ []) left r compared given
-walking_reads k w = record { whole = λ others. w.whole (k ∷ others); normals = w.normals }
+-- the position's own record is there where bodies are left
+found_left : {size : ℕ} (some : 0 < size) (im : List ℕ → Number) {bytes : List ℕ} → Filled size bytes → found_one (map im (all_bodies size bytes)) ≡ bool_byte (not (eqb (length bytes) 0))
+found_left {size} some im {bytes} f = go (eqb (length bytes) 0) refl
+  where
+    go : (b : Bool) → eqb (length bytes) 0 ≡ b → found_one (map im (all_bodies size bytes)) ≡ bool_byte (not b)
+    go true h = ap (λ (bs : List (List ℕ)). found_one (map im bs)) (filled_none some bytes (eqb-true (length bytes) 0 h))
+    go false h = ap (λ (bs : List (List ℕ)). found_one (map im bs)) (filled_next some f h).splits
 
-module _ {ps ks : List Number} {k : Number} {r compared : ℕ} {given : List ℕ} where
-  module _ {p : Number} {left : List Number} (w : Walking ps ks (k ∷ []) (p ∷ left) r compared given) (n : normal k ≡ true) where
-    -- the test of the current position
-    tested : normal_at_most p k ≡ at_most p k
-    tested = both_normal p k (w.normals 0 (omega arith)) n
+-- at the first position
+pub walking_starts : {ims : List Image} {bytes : List ℕ} (ps : List Number) → Told ims bytes → Walking ims bytes ps bytes 0 0 0 []
+walking_starts {ims} {bytes} ps t =
+    record {
+      filled = t.filled;
+      reached = omega (arith, zero-mul (body_size ims));
+      each = t.each;
+      whole = joined_first (walk 0 ps (map (first_column_of ims) (all_bodies (body_size ims) bytes)));
+      settled = refl;
+      few = omega arith;
+    }
 
-    -- the record is at least as large: it is the position's
-    pub walking_turns : normal_at_most p k ≡ true → Walking ps ks (k ∷ []) left r (compared + 1) (given ++ r ∷ [])
-    walking_turns h =
+-- it is at most one
+pub one_few : (b : Bool) → bool_byte b ≤ 1
+one_few true = omega arith
+one_few false = omega arith
+
+-- each of so many dropped
+each_dropped : {P : List ℕ → Type 0} (k : ℕ) {bs : List (List ℕ)} → Each P bs → Each P (drop k bs)
+each_dropped zero e = e
+each_dropped (suc k) Each.none = Each.none
+each_dropped (suc k) (Each.more p e) = each_dropped k e
+
+module _ {ims : List Image} {all : List ℕ} {ps : List Number} {left : List ℕ} {index r compared : ℕ} {given : List ℕ}
+    (w : Walking ims all ps left index r compared given) (kind : UnsignedFixed (first_image ims)) (checked : Checked (first_image ims)) (some : 0 < body_size ims) where
+  abbrev size : ℕ
+  size = body_size ims
+
+  abbrev columns : List Number
+  columns = map (first_column_of ims) (all_bodies size left)
+
+  module _ (more : index < length ps) {least : Option ℕ} (l : LeastRun (first_image ims) (get_or ps index zero_number) least)
+      (is_normal : normal (get_or ps index zero_number) ≡ true)
+      {c : ℕ} (counted : c ≡ first_reaching least (runs_in (column_size (first_image ims)) size left)) where
+    -- so many records stand before the position's
+    pub below : c ≡ first_record columns (get_or ps index zero_number)
+    below = counted ∙ first_reaches ims kind checked l is_normal (all_bodies size left) w.each
+
+    -- which are in what is left
+    few_below : c ≤ length (all_bodies size left)
+    few_below = let i = (is_first columns (get_or ps index zero_number)).inside in omega (arith, below, i, length-map (all_bodies size left) (first_column_of ims))
+
+    dropped : Dropped some c left (drop (c * size) left)
+    dropped = filled_drop some c w.filled few_below
+
+    pub below_inside : c * size ≤ length left
+    below_inside = omega (arith, dropped.length_left)
+
+    pub walking_turns :
+        {left_now : List ℕ} {one compared_now : ℕ} {given_now : List ℕ}
+        → left_now ≡ drop (c * size) left
+        → one ≡ bool_byte (not (eqb (length left_now) 0))
+        → compared_now ≡ compared + (c + one)
+        → given_now ≡ given ++ (r + c) ∷ []
+        → Walking ims all ps left_now (index + 1) (r + c) compared_now given_now
+    walking_turns {left_now} {one} {compared_now} {given_now} e o n g =
+        let p : Number = get_or ps index zero_number in
+        let others : List Number = drop (suc index) ps in
+        let d = dropped in
+        let behind : map (first_column_of ims) (all_bodies size (drop (c * size) left)) ≡ drop c columns = ap (map (first_column_of ims)) d.same ∙ sym (drop-map (first_column_of ims) c (all_bodies size left)) in
+        let found : one ≡ found_one (drop c columns) = o ∙ ap (λ (l : List ℕ). bool_byte (not (eqb (length l) 0))) e ∙ sym (found_left some (first_column_of ims) d.rest) ∙ ap found_one behind in
         record {
+          filled = subst (Filled size) (sym e) d.rest;
+          reached = omega (arith, ap length e, d.length_left, w.reached, add-mul r c size);
+          each = subst (λ (l : List ℕ). Each (FirstColumn ims) (all_bodies size l)) (sym e) (subst (Each (FirstColumn ims)) (sym d.same) (each_dropped c w.each));
           whole =
-              λ others.
-              joined_giving given (compared + 1) r (walk r left (k ∷ others))
-              ∙ joined_comparing given compared (giving r (walk r left (k ∷ others)))
-              ∙ ap (joined given compared) (sym (walk_reached r p left k others (sym tested ∙ h)))
-              ∙ w.whole others;
-          normals = λ i l. w.normals (suc i) (omega arith);
+              (λ i. joined (g i) (n i) (walk (r + c) (drop (add-one index i) ps) (map (first_column_of ims) (all_bodies size (e i)))))
+              ∙ (λ i. joined (given ++ (r + c) ∷ []) (compared + (c + found i)) (walk (r + c) others (behind i)))
+              ∙ sym (joined_joined given compared ((r + c) ∷ []) (c + found_one (drop c columns)) (walk (r + c) others (drop c columns)))
+              ∙ ap (λ (m : ℕ). joined given compared (behind_position r others columns m)) below
+              ∙ ap (joined given compared) (sym (walk_position r p others columns))
+              ∙ ap (λ (l : List Number). joined given compared (walk r l columns)) (sym (drop-cons ps index zero_number more))
+              ∙ w.whole;
+          settled = ap length g ∙ omega (arith, length-append given ((r + c) ∷ []), w.settled);
+          few = omega (arith, w.few, o, one_few (not (eqb (length left_now) 0)));
         }
 
-    -- else the next record
-    pub walking_passes : normal_at_most p k ≡ false → Walking ps (ks ++ k ∷ []) [] (p ∷ left) (r + 1) (compared + 1) given
-    walking_passes h =
-        record {
-          whole =
-              λ others.
-              joined_comparing given compared (walk (r + 1) (p ∷ left) others)
-              ∙ ap (λ (i : ℕ). joined given compared (comparing (walk i (p ∷ left) others))) (add-one r)
-              ∙ ap (joined given compared) (sym (walk_passed r p left k others (sym tested ∙ h)))
-              ∙ w.whole others
-              ∙ ap (walk 0 ps) (sym (append_assoc ks (k ∷ []) others));
-          normals = w.normals;
-        }
+-- at the last
+pub walking_ends :
+    {ims : List Image} {all : List ℕ} {ps : List Number} {left : List ℕ} {index r compared : ℕ} {given : List ℕ}
+    → Walking ims all ps left index r compared given
+    → length ps ≤ index
+    → record { records = given; comparisons = compared } ≡ walk 0 ps (map (first_column_of ims) (all_bodies (body_size ims) all))
+walking_ends {ims} {ps = ps} {left} {r = r} {compared} {given} w l =
+    let columns : List Number = map (first_column_of ims) (all_bodies (body_size ims) left) in
+    sym (joined_none given compared r columns)
+    ∙ ap (λ (qs : List Number). joined given compared (walk r qs columns)) (sym (drop_of_length-le ps l))
+    ∙ w.whole
 
-  -- no position is left
-  pub walking_over : (left : List Number) → length left ≡ 0 → Walking ps ks (k ∷ []) left r compared given → Walking ps (ks ++ k ∷ []) [] left (r + 1) compared given
-  walking_over [] h w =
+-- The loop over the positions.
+
+-- a position more, as the code holds what it goes by
+pub record Step (ims : List Image) (all : List ℕ) (ps : List Number) (left : List ℕ) (index r compared : ℕ) (given : List ℕ) (size c : ℕ) : Type 0 where
+  pub inside : c * size ≤ length left
+  pub few : r + c ≤ length all
+  pub sums : {one : ℕ} → one ≤ 1 → compared + (c + one) ≤ length all + (index + 1)
+  pub turns :
+      {left_now : List ℕ} {one compared_now : ℕ} {given_now : List ℕ}
+      → left_now ≡ drop (c * size) left
+      → one ≡ bool_byte (not (eqb (length left_now) 0))
+      → compared_now ≡ compared + (c + one)
+      → given_now ≡ given ++ (r + c) ∷ []
+      → Walking ims all ps left_now (index + 1) (r + c) compared_now given_now
+
+-- the record number is at most the count of bytes
+walking_few : {ims : List Image} {all : List ℕ} {ps : List Number} {left : List ℕ} {index r compared : ℕ} {given : List ℕ}
+    → Walking ims all ps left index r compared given → 0 < body_size ims → r + length left ≤ length all
+walking_few {ims} {r = r} w some = let wide : r * 1 ≤ r * body_size ims = mul-le-mul_left r some in omega (arith, w.reached)
+
+module _ {ims : List Image} {all : List ℕ} {ps : List Number} {left : List ℕ} {index r compared : ℕ} {given : List ℕ}
+    (w : Walking ims all ps left index r compared given) (o : Ordered ims all) (known : Bytes all) where
+  -- what is asked of the count
+  pub counts_asked : {width size : ℕ} → width ≡ column_size (first_image ims) → size ≡ body_size ims → (width ≤ size) × (0 < size) × (length left % size ≡ 0)
+  counts_asked {width} {size} k s =
+      let t = ordered_told o known in
+      (omega (arith, t.width), omega (arith, t.some), ap (λ (n : ℕ). length left % n) s ∙ filled_rest w.filled)
+
+  pub step_told :
+      check_numbers 0 ps ≡ done tt
+      → index < length ps
+      → {im : Image} (d : Number) {least : Option ℕ}
+      → im ≡ first_image ims
+      → LeastRun im (get_or ps index d) least
+      → {width size c : ℕ}
+      → width ≡ column_size (first_image ims)
+      → size ≡ body_size ims
+      → c ≡ first_reaching least (runs_in width size left)
+      → Step ims all ps left index r compared given size c
+  step_told normals more {im} d {least} e l {width} {size} {c} k s counted =
+      let t = ordered_told o known in
+      let position : get_or ps index d ≡ get_or ps index zero_number = get_or_default ps index d zero_number more in
+      let least_is : LeastRun (first_image ims) (get_or ps index zero_number) least = subst (λ (p : Number). LeastRun (first_image ims) p least) position (subst (λ (i : Image). LeastRun i (get_or ps index d) least) e l) in
+      let count : c ≡ first_reaching least (runs_in (column_size (first_image ims)) (body_size ims) left) = counted ∙ (λ i. first_reaching least (runs_in (k i) (s i) left)) in
+      let is_normal = all_normal ps normals index more in
+      let inside = below_inside w o.kind t.checked t.some more least_is is_normal count in
+      let next = walking_turns w o.kind t.checked t.some more least_is is_normal count refl refl refl refl in
+      let few : r + c ≤ length all = omega (arith, walking_few next t.some) in
       record {
-        whole =
-            λ others.
-            ap (joined given compared) (walk_none (r + 1) r others (k ∷ others))
-            ∙ w.whole others
-            ∙ ap (walk 0 ps) (sym (append_assoc ks (k ∷ []) others));
-        normals = w.normals;
+        inside = omega (arith, inside, ap (λ (n : ℕ). c * n) s);
+        few = few;
+        sums = λ h. omega (arith, w.few, few);
+        turns = λ a b n g. walking_turns w o.kind t.checked t.some more least_is is_normal count (a ∙ ap (λ (n : ℕ). drop (c * n) left) s) b n g;
       }
-  walking_over (p ∷ left) h w = absurd (omega arith)
-
--- All keys are read: what was found, and what the walk finds for the positions left over from an index on, is the whole.
-pub record Filling (ps ks left : List Number) (r compared : ℕ) (given : List ℕ) (index : ℕ) : Type 0 where
-  pub whole : joined given compared (walk r (drop index left) []) ≡ walk 0 ps ks
-
-module _ {ps ks left : List Number} {r compared : ℕ} {given : List ℕ} {index : ℕ} (f : Filling ps ks left r compared given index) where
-  -- one more
-  pub filling_turns : {given_now : List ℕ} → index < length left → given_now ≡ given ++ r ∷ [] → Filling ps ks left r compared given_now (index + 1)
-  filling_turns more g =
-      record {
-        whole =
-            ap (λ (l : List ℕ). joined l compared (walk r (drop (index + 1) left) [])) g
-            ∙ joined_giving given compared r (walk r (drop (index + 1) left) [])
-            ∙ ap (λ (i : ℕ). joined given compared (giving r (walk r (drop i left) []))) (add-one index)
-            ∙ ap (joined given compared)
-            (sym (ap (λ (l : List Number). walk r l []) (drop-cons left index zero_number more) ∙ walk_left r (get_or left index zero_number) (drop (suc index) left)))
-            ∙ f.whole;
-      }
-
-  -- at the end
-  pub filling_ends : length left ≤ index → record { records = given; comparisons = compared } ≡ walk 0 ps ks
-  filling_ends l =
-      sym (joined_none given compared r [])
-      ∙ ap (λ (l : List Number). joined given compared (walk r l [])) (sym (drop_of_length-le left l))
-      ∙ f.whole

@@ -1,5 +1,5 @@
 -- Document 02, (iii): numbers that fall, by value.
-use Rattle.std.specs.Prelude.{ℕ, ◌<◌, ◌≤◌, ◌≡◌, Bool, true, false, not, ◌&&◌, ◌||◌, List, [], ◌∷◌, Option, Some, None, length, get_or}
+use Rattle.std.specs.Prelude.{ℕ, ◌<◌, ◌≤◌, ◌≡◌, Bool, true, false, not, ◌&&◌, ◌||◌, List, [], ◌∷◌, length, get_or}
 use Rattle.decimal.specs.declared.number.Number.{Number}
 use Rattle.decimal.specs.Comparison.{value_order, is_at_most}
 use Rattle.decimal.specs.Number.{zero_number, normal}
@@ -23,8 +23,3 @@ fall (a ∷ (b ∷ ns)) = not (at_most a b) || fall (b ∷ ns)
 -- two numbers are in normal form, and the first is at most the second
 unfoldable pub normal_at_most : Number → Number → Bool
 normal_at_most a b = normal a && (normal b && at_most a b)
-
--- a number is not known to be at least the one before it, where there is one before it
-unfoldable pub is_fallen : Option Number → Number → Bool
-is_fallen None number = false
-is_fallen (Some last) number = not (normal_at_most last number)

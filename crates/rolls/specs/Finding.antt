@@ -8,49 +8,49 @@ use Rattle.codec.specs.Contents.{Table}
 use Rattle.codec.specs.Lists.{no_image}
 use Rattle.codec.specs.Order.{UnsignedFixed}
 use Rattle.codec.specs.Unpacking.{unpack_body}
-use Rattle.records.specs.Files.{read_file, record_count, shown_part}
+use Rattle.records.specs.Files.RecordFile.{read_file, record_count, shown_part}
 use Rattle.rolls.specs.Falling.{at_most, NeverFall}
-use Rattle.rolls.specs.Searching.{max_positions, keys_in, IsFirst, Search, walk}
+use Rattle.rolls.specs.Searching.{max_positions, first_columns_in, IsFirst, Search, walk}
 
--- what is given for positions, of the keys of a file's records
-pub record Finds (ps keys : List Number) (s : Search) : Type 0 where
+-- what is given for positions, of the first columns of a file's records
+pub record Finds (ps columns : List Number) (s : Search) : Type 0 where
   -- a record number for each position
   pub counted : length s.records ≡ length ps
   -- "the first record whose first column is at least the position, or the record count"
-  pub first : (i : ℕ) → i < length ps → IsFirst keys (get_or ps i zero_number) (get_or s.records i 0)
+  pub first : (i : ℕ) → i < length ps → IsFirst columns (get_or ps i zero_number) (get_or s.records i 0)
   -- and no other number is that
-  pub only : (i r : ℕ) → i < length ps → IsFirst keys (get_or ps i zero_number) r → r ≡ get_or s.records i 0
+  pub only : (i r : ℕ) → i < length ps → IsFirst columns (get_or ps i zero_number) r → r ≡ get_or s.records i 0
   -- every record from there on is at least the position too
-  pub later : (i r : ℕ) → i < length ps → get_or s.records i 0 ≤ r → r < length keys → at_most (get_or ps i zero_number) (get_or keys r zero_number) ≡ true
+  pub later : (i r : ℕ) → i < length ps → get_or s.records i 0 ≤ r → r < length columns → at_most (get_or ps i zero_number) (get_or columns r zero_number) ≡ true
   -- it is what the walk gives: "The answer carries the count of comparisons made; it equals that walk's"
-  pub walked : walk 0 ps keys ≡ s
+  pub walked : walk 0 ps columns ≡ s
   -- "and is at most positions plus records"
-  pub few : s.comparisons ≤ length ps + length keys
+  pub few : s.comparisons ≤ length ps + length columns
 
--- the key of a record: the number of its first column, where all columns of its body are read
-pub record HasKey (ims : List Image) (body : List ℕ) (key : Number) : Type 0 where
+-- a record's first column as a number, where all columns of its body are read
+pub record HasFirstColumn (ims : List Image) (body : List ℕ) (column : Number) : Type 0 where
   pub numbers : List Number
   pub reads : unpack_body ims body ≡ done numbers
-  pub first : key ≡ get_or numbers 0 zero_number
+  pub first : column ≡ get_or numbers 0 zero_number
 
 -- positions that can be looked for in a file: all that is asked before the walk
-pub record Askable (file : List ℕ) (ps keys : List Number) : Type 0 where
+pub record Askable (file : List ℕ) (ps columns : List Number) : Type 0 where
   -- the file is read
   pub table : Table
   pub reads : read_file file ≡ done table
   -- "up to 64 positions"
   pub page : length ps ≤ max_positions
-  -- every column of every record is read; a key for each record, that of the body which is shown
-  pub bodies : keys_in table file ≡ done keys
-  pub records : length keys ≡ record_count table file
-  pub each : (r : ℕ) → r < record_count table file → HasKey table.images (shown_part file r) (get_or keys r zero_number)
+  -- every column of every record is read; a first column for each record, that of the body which is shown
+  pub bodies : first_columns_in table file ≡ done columns
+  pub records : length columns ≡ record_count table file
+  pub each : (r : ℕ) → r < record_count table file → HasFirstColumn table.images (shown_part file r) (get_or columns r zero_number)
   -- the positions are in normal form, and do not fall
   pub normals : (i : ℕ) → i < length ps → normal (get_or ps i zero_number) ≡ true
   pub positions : NeverFall ps
   -- "a file whose first column is unsigned fixed point"
   pub kind : UnsignedFixed (get_or table.images 0 no_image)
   -- no record is below an earlier one
-  pub in_order : NeverFall keys
+  pub in_order : NeverFall columns
 
 -- the refusals that the call can give: "4 and 5 are never given", nor is 6; 14, 15 and 16 "carry place 0"
 pub data Refusable : ℕ → ℕ → Type 0 where

@@ -11,10 +11,11 @@ use Rattle.codec.specs.Columns.{column_size, body_size}
 use Rattle.codec.specs.Contents.{read_column, column_length, read_columns, columns_length, read_contents}
 use Rattle.codec.specs.Halves.{halves_of}
 use Rattle.codec.specs.Unpacking.{all_digits, all_zero, sign_part, digit_part, exponent_part, pad_part, said_by, breaks_rules, as_half, parts_number, halves_number, unpack_column, unpack_columns, unpack_body}
-use Rattle.records.specs.Files.{read_file, record_count, bodies, bodies_in}
+use Rattle.codec.specs.Bodies.{bodies}
+use Rattle.records.specs.Files.RecordFile.{read_file, record_count, bodies_in}
 use Rattle.rolls.specs.Falling.{at_most, fall}
-use Rattle.rolls.specs.Searching.{keys_of, check_kind, refuse_where}
-use Rattle.rolls.specs.Merging.{key_of, merged, read_whole, check_pair, common_table, merged_file, merging}
+use Rattle.rolls.specs.Searching.{first_columns_of, check_kind, refuse_where}
+use Rattle.rolls.specs.Merging.{first_column_of, merged, read_whole, check_pair, common_table, merged_file, merging}
 use Rattle.rolls.specs.KnownSearches.{steps}
 
 -- a file of two columns, ## and #, where the second tells the camera
@@ -49,9 +50,9 @@ pub record KnownMerges : Type 0 where
   pub second_falls : merging (steps []) (steps (0x02 ∷ (0x01 ∷ []))) 0 ≡ refused 15 0
 
 pub known_merges : KnownMerges
-unfolding merging merged_file common_table merged read_whole check_pair key_of given within read_file read_contents read_columns read_column column_length columns_length
+unfolding merging merged_file common_table merged read_whole check_pair first_column_of given within read_file read_contents read_columns read_column column_length columns_length
     read_image check_image scanned_image run_state next_state integers_from fractions_from leading_sign column_size body_size record_count bodies bodies_in
-    keys_of unpack_body unpack_columns unpack_column halves_number halves_of all_digits all_zero sign_part digit_part exponent_part pad_part said_by
+    first_columns_of unpack_body unpack_columns unpack_column halves_number halves_of all_digits all_zero sign_part digit_part exponent_part pad_part said_by
     breaks_rules as_half parts_number number_of scaled_number shifted_number leading_zeros value_of check_kind refuse_where fall at_most value_order
     signed_order whole_order magnitude ◌then◌ letters steps
 known_merges =

@@ -12,9 +12,10 @@ use Rattle.codec.specs.Columns.{column_size, body_size}
 use Rattle.codec.specs.Contents.{read_column, column_length, read_columns, columns_length, read_contents}
 use Rattle.codec.specs.Halves.{halves_of}
 use Rattle.codec.specs.Unpacking.{all_digits, all_zero, sign_part, digit_part, exponent_part, pad_part, said_by, breaks_rules, as_half, parts_number, halves_number, unpack_column, unpack_columns, unpack_body}
-use Rattle.records.specs.Files.{read_file, record_count, bodies, bodies_in}
+use Rattle.codec.specs.Bodies.{bodies}
+use Rattle.records.specs.Files.RecordFile.{read_file, record_count, bodies_in}
 use Rattle.rolls.specs.Falling.{at_most, fall}
-use Rattle.rolls.specs.Searching.{keys_of, first_record, first_records, Search, giving, comparing, walk, found, check_count, check_numbers, check_kind, refuse_where, check_page, searching}
+use Rattle.rolls.specs.Searching.{first_columns_of, first_record, first_records, Search, giving, comparing, walk, found, check_count, check_numbers, check_kind, refuse_where, check_page, searching}
 
 -- the number whose first digits are those of d, which has k digits; e is given with exponentLimit added; below zero or not
 pub above : ℕ → ℕ → ℕ → Number
@@ -71,7 +72,7 @@ pub record KnownSearches : Type 0 where
 
 pub known_searches : KnownSearches
 unfolding filled searching read_file read_contents read_columns read_column column_length columns_length read_image check_image scanned_image run_state next_state
-    integers_from fractions_from leading_sign column_size body_size record_count bodies bodies_in keys_of unpack_body unpack_columns unpack_column halves_number
+    integers_from fractions_from leading_sign column_size body_size record_count bodies bodies_in first_columns_of unpack_body unpack_columns unpack_column halves_number
     halves_of all_digits all_zero sign_part digit_part exponent_part pad_part said_by breaks_rules as_half parts_number number_of scaled_number shifted_number
     leading_zeros value_of check_count check_numbers check_number normal check_kind refuse_where check_page fall at_most value_order signed_order whole_order
     magnitude unity found first_records first_record walk giving comparing ◌then◌ above below steps gives

@@ -1,5 +1,6 @@
 pub mod Falling
 pub mod Searching
+pub mod Runs
 pub mod Merging
 pub mod MergedFiles
 pub mod Finding

@@ -5,10 +5,10 @@ use Rattle.decimal.specs.Answer.{done}
 use Rattle.codec.specs.Contents.{Table}
 use Rattle.codec.specs.Lists.{no_image}
 use Rattle.codec.specs.Order.{UnsignedFixed}
-use Rattle.records.specs.Files.{read_file, record_count, bodies_in, shown_part}
+use Rattle.records.specs.Files.RecordFile.{read_file, record_count, bodies_in, shown_part}
 use Rattle.rolls.specs.Falling.{NeverFall}
-use Rattle.rolls.specs.Searching.{keys_in, Search}
-use Rattle.rolls.specs.Merging.{key_of, contents_in, IsMerge}
+use Rattle.rolls.specs.Searching.{first_columns_in, Search}
+use Rattle.rolls.specs.Merging.{first_column_of, contents_in, IsMerge}
 
 -- two files that can be merged: all that is asked of them but room
 pub record Mergeable (first second : List ℕ) : Type 0 where
@@ -18,15 +18,15 @@ pub record Mergeable (first second : List ℕ) : Type 0 where
   pub second_file : read_file second ≡ done table
   pub contents : contents_in table first ≡ contents_in table second
   -- every column of every record is read
-  pub first_keys : List Number
-  pub second_keys : List Number
-  pub first_read : keys_in table first ≡ done first_keys
-  pub second_read : keys_in table second ≡ done second_keys
+  pub first_file_columns : List Number
+  pub second_file_columns : List Number
+  pub first_read : first_columns_in table first ≡ done first_file_columns
+  pub second_read : first_columns_in table second ≡ done second_file_columns
   -- "a first column as in (iii)"
   pub kind : UnsignedFixed (get_or table.images 0 no_image)
   -- "neither falling"
-  pub first_order : NeverFall first_keys
-  pub second_order : NeverFall second_keys
+  pub first_order : NeverFall first_file_columns
+  pub second_order : NeverFall second_file_columns
 
 -- a file is two files merged
 pub record MergedFile (first second file : List ℕ) : Type 0 where
@@ -35,7 +35,7 @@ pub record MergedFile (first second file : List ℕ) : Type 0 where
   pub reads : read_file file ≡ done table
   pub contents : contents_in table file ≡ contents_in table first
   -- its records are those of both, merged by the four clauses
-  pub records : IsMerge (key_of table.images) (bodies_in table first) (bodies_in table second) (bodies_in table file)
+  pub records : IsMerge (first_column_of table.images) (bodies_in table first) (bodies_in table second) (bodies_in table file)
 
 -- a record of a file is in another: its body, byte for byte
 pub record HasRecord (table : Table) (file : List ℕ) (body : List ℕ) : Type 0 where

@@ -1,5 +1,5 @@
 -- Document 02, (vi): two cameras' files merged into one.
-use Rattle.std.specs.Prelude.{ℕ, ◌+◌, ◌/◌, ◌<◌, ◌≡◌, Bool, true, false, not, ◌||◌, List, [], ◌∷◌, ◌++◌, length, map, get_or, take, count_by, bytes_eq}
+use Rattle.std.specs.Prelude.{ℕ, ◌+◌, ◌<◌, ◌≡◌, Bool, true, false, not, ◌||◌, List, [], ◌∷◌, ◌++◌, length, map, get_or, take, count_by, bytes_eq}
 use Rattle.std.specs.List.{concat}
 use Rattle.std.specs.declared.cmp.Ordering.TheVariants.{Equal}
 use Rattle.decimal.specs.declared.image.Image.{Image}
@@ -9,12 +9,11 @@ use Rattle.decimal.specs.Digits.{comes_before}
 use Rattle.decimal.specs.Number.{zero_number}
 use Rattle.decimal.specs.Comparison.{value_order}
 use Rattle.codec.specs.Answers.{within}
-use Rattle.codec.specs.Contents.{Table, contents_of}
+use Rattle.codec.specs.Contents.{Table}
 use Rattle.codec.specs.Unpacking.{unpack_body}
-use Rattle.records.specs.Files.{read_file, bodies, bodies_in}
-use Rattle.rolls.specs.declared.merging.Whole.{Whole}
+use Rattle.records.specs.Files.RecordFile.{read_file, bodies_in}
 use Rattle.rolls.specs.Falling.{at_most, NeverFall, fall}
-use Rattle.rolls.specs.Searching.{keys_in, check_kind, refuse_where}
+use Rattle.rolls.specs.Searching.{first_columns_in, check_kind, refuse_where}
 
 -- What merging is, apart from how it is done.
 
@@ -37,21 +36,21 @@ of_camera c (e ∷ es) = pick (is_from c e) (e.body ∷ of_camera c es) (of_came
 abbrev pub times : List ℕ → List (List ℕ) → ℕ
 times body bs = count_by (bytes_eq body) bs
 
--- the key of a record, the number of its first column, by its body
-unfoldable pub key_of : List Image → List ℕ → Number
-key_of ims body = get_or (given (unpack_body ims body)) 0 zero_number
+-- a record's first column as a number, by its body
+unfoldable pub first_column_of : List Image → List ℕ → Number
+first_column_of ims body = get_or (given (unpack_body ims body)) 0 zero_number
 
 -- whether record number i of the merged file is from the first camera
 abbrev pub first_at : List Entry → ℕ → Bool
 first_at es i = get_or (map (λ e. e.is_first) es) i true
 
--- the records zs are those of two files, xs and ys, merged by their keys
-pub record IsMerge (key : List ℕ → Number) (xs ys zs : List (List ℕ)) : Type 0 where
+-- the records zs are those of two files, xs and ys, merged by their first columns
+pub record IsMerge (column : List ℕ → Number) (xs ys zs : List (List ℕ)) : Type 0 where
   -- from which camera each is
   pub entries : List Entry
   pub whole : zs ≡ map (λ e. e.body) entries
   -- "The result doesn't fall"
-  pub in_order : NeverFall (map key zs)
+  pub in_order : NeverFall (map column zs)
   -- it "holds each record of both as often as both together do"
   pub as_often : (body : List ℕ) → times body zs ≡ times body xs + times body ys
   -- it "keeps each camera's own order"
@@ -60,22 +59,22 @@ pub record IsMerge (key : List ℕ → Number) (xs ys zs : List (List ℕ)) : Ty
   -- "on equal first columns the first camera's records stand first"
   pub ties :
       (i j : ℕ) → i < j → j < length zs
-      → value_order (get_or (map key zs) i zero_number) (get_or (map key zs) j zero_number) ≡ Equal
+      → value_order (get_or (map column zs) i zero_number) (get_or (map column zs) j zero_number) ≡ Equal
       → first_at entries i ≡ false
       → first_at entries j ≡ false
 
 -- And computed.
 
--- two files' records merged, the first of them first where a test holds (the proofs' MergeTheorem: where the test is the order of the keys,
--- and neither falls, these and no others are merged by the keys)
+-- two files' records merged, the first of them first where a test holds (the proofs' MergeTheorem: where the test is the order of the first columns,
+-- and neither falls, these and no others are merged by the first columns)
 unfoldable pub merged : (List ℕ → List ℕ → Bool) → List (List ℕ) → List (List ℕ) → List (List ℕ)
 merged goes [] ys = ys
 merged goes (x ∷ xs) [] = x ∷ xs
 merged goes (x ∷ xs) (y ∷ ys) = pick (goes x y) (x ∷ merged goes xs (y ∷ ys)) (y ∷ merged goes (x ∷ xs) ys)
 
--- by the order of the keys
-abbrev pub by_key : (List ℕ → Number) → List ℕ → List ℕ → Bool
-by_key key x y = at_most (key x) (key y)
+-- by the order of the first columns
+abbrev pub by_first_column : (List ℕ → Number) → List ℕ → List ℕ → Bool
+by_first_column column x y = at_most (column x) (column y)
 
 -- Files.
 
@@ -87,7 +86,7 @@ pub record WholeFile : Type 0 where
 -- refused as the file is, then with 7
 unfoldable pub read_whole : List ℕ → Answer WholeFile
 read_whole file =
-    read_file file then λ table. (keys_in table file then λ keys. done (record { table = table; falls = fall keys }))
+    read_file file then λ table. (first_columns_in table file then λ columns. done (record { table = table; falls = fall columns }))
 
 -- the bytes of a file's contents
 abbrev pub contents_in : Table → List ℕ → List ℕ
@@ -114,7 +113,7 @@ unfoldable pub merged_file : List ℕ → List ℕ → Answer (List ℕ)
 merged_file first second =
     common_table first second then λ table.
     done
-    (file_with (contents_in table first) (merged (by_key (key_of table.images)) (bodies_in table first) (bodies_in table second)))
+    (file_with (contents_in table first) (merged (by_first_column (first_column_of table.images)) (bodies_in table first) (bodies_in table second)))
 
 -- the call: last 6
 unfoldable pub merging : List ℕ → List ℕ → ℕ → Answer (List ℕ)
@@ -122,14 +121,10 @@ merging first second room = merged_file first second then within room
 
 -- What the code's helpers find.
 
--- a file that is read whole, as the code holds it
-abbrev pub whole_of : WholeFile → Whole
-whole_of w = record { table = contents_of w.table; falls = w.falls }
-
--- all bodies of this size in bytes that are bodies one behind the other
-abbrev pub all_bodies : ℕ → List ℕ → List (List ℕ)
-all_bodies size bytes = bodies (length bytes / size) size bytes
+-- two files have the same contents, of a first column that can be compared: 17, then 16
+unfoldable pub check_contents : List ℕ → List ℕ → List Image → Answer (Unit {0})
+check_contents contents other ims = refuse_where (not (bytes_eq contents other)) 17 then λ _. check_kind ims
 
 -- the second of two bodies does not come before the first, by so many bytes at the front
 abbrev pub not_behind : ℕ → List ℕ → List ℕ → Bool
-not_behind column x y = not (comes_before (take column y) (take column x))
+not_behind width x y = not (comes_before (take width y) (take width x))

@@ -8,43 +8,42 @@ use Rattle.decimal.specs.Truncation.{is_signed}
 use Rattle.codec.specs.Lists.{no_image}
 use Rattle.codec.specs.Contents.{Table}
 use Rattle.codec.specs.Unpacking.{unpack_body}
-use Rattle.records.specs.Files.{read_file, bodies_in}
+use Rattle.records.specs.Files.RecordFile.{read_file, bodies_in}
 use Rattle.rolls.specs.declared.searching.Found.{Found}
-use Rattle.rolls.specs.declared.searching.Walked.{Walked}
 use Rattle.rolls.specs.Falling.{at_most, fall}
 
 -- "up to 64 positions"
 abbrev pub max_positions : ℕ
 max_positions = 64
 
--- The key of a record is the number of its first column.
+-- A record goes by its first column, as a number.
 
--- the keys of records, by their bodies: every column of every record is read, 7 with the column within the first bad record
-unfoldable pub keys_of : List Image → List (List ℕ) → Answer (List Number)
-keys_of ims [] = done []
-keys_of ims (body ∷ bs) = unpack_body ims body then λ ns. (keys_of ims bs then λ keys. done (get_or ns 0 zero_number ∷ keys))
+-- the first columns of records, by their bodies: every column of every record is read, 7 with the column within the first bad record
+unfoldable pub first_columns_of : List Image → List (List ℕ) → Answer (List Number)
+first_columns_of ims [] = done []
+first_columns_of ims (body ∷ bs) = unpack_body ims body then λ ns. (first_columns_of ims bs then λ columns. done (get_or ns 0 zero_number ∷ columns))
 
--- the keys of a file's records
-abbrev pub keys_in : Table → List ℕ → Answer (List Number)
-keys_in table file = keys_of table.images (bodies_in table file)
+-- the first columns of a file's records
+abbrev pub first_columns_in : Table → List ℕ → Answer (List Number)
+first_columns_in table file = first_columns_of table.images (bodies_in table file)
 
 -- What is looked for: "the first record whose first column is at least the position, or the record count".
 
--- r is that record's number, by itself: no earlier record's key is at least the position, and that of r is, if there is a record r
-pub record IsFirst (keys : List Number) (position : Number) (r : ℕ) : Type 0 where
-  pub inside : r ≤ length keys
-  pub reaches : r < length keys → at_most position (get_or keys r zero_number) ≡ true
-  pub earlier : (s : ℕ) → s < r → at_most position (get_or keys s zero_number) ≡ false
+-- r is that record's number, by itself: no earlier record's first column is at least the position, and that of r is, if there is a record r
+pub record IsFirst (columns : List Number) (position : Number) (r : ℕ) : Type 0 where
+  pub inside : r ≤ length columns
+  pub reaches : r < length columns → at_most position (get_or columns r zero_number) ≡ true
+  pub earlier : (s : ℕ) → s < r → at_most position (get_or columns s zero_number) ≡ false
 
 -- and computed (the proofs' FindTheorem: that record and no other)
 unfoldable pub first_record : List Number → Number → ℕ
 first_record [] position = 0
-first_record (key ∷ keys) position = pick (at_most position key) 0 (suc (first_record keys position))
+first_record (column ∷ columns) position = pick (at_most position column) 0 (suc (first_record columns position))
 
 -- for each position
 unfoldable pub first_records : List Number → List Number → List ℕ
-first_records keys [] = []
-first_records keys (position ∷ ps) = first_record keys position ∷ first_records keys ps
+first_records columns [] = []
+first_records columns (position ∷ ps) = first_record columns position ∷ first_records columns ps
 
 -- The walk: "it compares the current position with the current record, goes to the next position if the record is at least as large, else
 -- to the next record, and ends when either runs out, positions left over taking the record count."
@@ -62,16 +61,16 @@ giving r s = record { records = r ∷ s.records; comparisons = s.comparisons }
 unfoldable pub comparing : Search → Search
 comparing s = record { records = s.records; comparisons = suc s.comparisons }
 
--- the walk over positions and the keys of the records from number r on
+-- the walk over positions and the first columns of the records from number r on
 unfoldable pub walk : ℕ → List Number → List Number → Search
-walk r [] keys = record { records = []; comparisons = 0 }
+walk r [] columns = record { records = []; comparisons = 0 }
 walk r (position ∷ ps) [] = giving r (walk r ps [])
-walk r (position ∷ ps) (key ∷ keys) =
-    comparing (pick (at_most position key) (giving r (walk r ps (key ∷ keys))) (walk (suc r) (position ∷ ps) keys))
+walk r (position ∷ ps) (column ∷ columns) =
+    comparing (pick (at_most position column) (giving r (walk r ps (column ∷ columns))) (walk (suc r) (position ∷ ps) columns))
 
 -- What the call gives: the first records, and the count of comparisons that the walk makes.
 unfoldable pub found : List Number → List Number → Search
-found ps keys = record { records = first_records keys ps; comparisons = (walk 0 ps keys).comparisons }
+found ps columns = record { records = first_records columns ps; comparisons = (walk 0 ps columns).comparisons }
 
 -- Refusals.
 
@@ -106,7 +105,7 @@ unfoldable pub searching : List ℕ → List Number → Answer Search
 searching file ps =
     read_file file then λ table.
     (check_count ps then λ _.
-    (keys_in table file then λ keys. (check_page table.images ps (fall keys) then λ _. done (found ps keys))))
+    (first_columns_in table file then λ columns. (check_page table.images ps (fall columns) then λ _. done (found ps columns))))
 
 -- what the code finds
 abbrev pub search_of : Found → Search
@@ -114,14 +113,6 @@ search_of found = record { records = found.records.items; comparisons = found.co
 
 -- What the code's helpers find.
 
--- the keys of a file's records, refused as the file is
-unfoldable pub keys_read : List ℕ → Answer (List Number)
-keys_read file = read_file file then λ table. keys_in table file
-
--- what the walk over all records finds
-abbrev pub found_in : Walked → Search
-found_in walked = search_of walked.found
-
--- whether the records fall
-abbrev pub falls_in : Walked → Bool
-falls_in walked = walked.falls
+-- a page that can be looked for, but for records that fall: 3, 16, 14
+unfoldable pub check_positions : List Image → List Number → Answer (Unit {0})
+check_positions ims ps = check_numbers 0 ps then λ _. (check_kind ims then λ _. refuse_where (fall ps) 14)

@@ -1,7 +1,9 @@
 // Numbers that fall: some number is below the one before it (document 02, (iii)).
-ghost use Rattle.std.specs.Prelude.{◌≡◌};
-ghost use Rattle.rolls.specs.Falling.{normal_at_most, is_fallen};
+ghost use Rattle.std.specs.Prelude.{◌≡◌, ◌%◌, ◌<◌, ◌≤◌, length};
+ghost use Rattle.rolls.specs.Falling.{normal_at_most};
+ghost use Rattle.rolls.specs.Runs.{runs_in, runs_fall};
 
+use codec::ordered_run;
 use decimal::{Number, compare};
 
 // Whether a number is at most another, by value; false where one is not in normal form.
@@ -11,10 +13,21 @@ pub(crate) fn is_at_most(first: Number, second: Number) -> bool
     compare(first, second).is_ok_and(|order| order.is_le())
 }
 
-// Whether a number is below the one before it, where there is one before it; true where one of the two is not in normal form.
-#[tactic(auto, unfolding(crate::specs::Falling::is_fallen))]
-pub(crate) fn is_fallen(last: Option<Number>, number: Number) -> bool
-    ensures { result ≡ is_fallen last number }
+// Whether the runs of first columns, so many bytes of each body of one size, fall.
+pub(crate) fn bodies_fall(bodies: &[u8], body: usize, width: usize) -> bool
+    requires { (width ≤ body) × (0 < body) × (length bodies.now % body ≡ 0) }
+    ensures { result ≡ runs_fall (runs_in width body bodies.now) }
 {
-    last.is_some_and(|last| !is_at_most(last, number))
+    let mut left = bodies;
+    let mut last = 0;
+    while !left.is_empty() {
+        let run = ordered_run(left, width);
+        if run < last {
+            return true;
+        }
+        last = run;
+        let (_, behind) = left.split_at(body);
+        left = behind;
+    }
+    false
 }

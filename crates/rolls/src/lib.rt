@@ -6,4 +6,4 @@ mod merging;
 mod searching;
 
 pub use merging::merge;
-pub use searching::{Found, POSITIONS, find};
+pub use searching::{Found, MAX_POSITIONS, find};

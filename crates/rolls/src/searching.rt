@@ -1,49 +1,40 @@
 // Finding a page's positions in a file, all in one pass (document 02, (iii)).
-ghost use Rattle.std.specs.Prelude.{◌≡◌, ◌<◌, ◌≤◌, length};
+ghost use Rattle.std.specs.Prelude.{◌≡◌, ◌%◌, ◌<◌, ◌≤◌, length};
 ghost use Rattle.decimal.specs.Answer.{done, meaning, mapped};
-ghost use Rattle.codec.specs.Contents.{contents_of};
-ghost use Rattle.records.specs.Files.{read_file};
+ghost use Rattle.codec.specs.Columns.{body_size};
+ghost use Rattle.codec.specs.Ordering.{reaches};
 ghost use Rattle.rolls.specs.Falling.{fall};
+ghost use Rattle.rolls.specs.Runs.{all_bodies, runs_in, first_reaching, Ordered};
 ghost use Rattle.rolls.specs.Searching.{
   max_positions,
+  first_columns_of,
   is_unsigned_fixed,
   check_numbers,
   check_kind,
   refuse_where,
-  check_page,
+  check_positions,
   walk,
   searching,
   search_of,
-  keys_read,
-  found_in,
-  falls_in,
 };
 
-use crate::falling::{is_at_most, is_fallen};
+use crate::falling::{bodies_fall, is_at_most};
 use arrayvec::ArrayVec;
-use codec::{Contents, unpack_under};
+use codec::{Contents, column_size, least_run, ordered_run};
 use decimal::{Image, Number, Reason, Refusal, Sign};
-use records::read_file;
+use records::RecordFile;
 
 // The most positions of a page.
-pub const POSITIONS: usize = 64;
+pub const MAX_POSITIONS: usize = 64;
 
 // For each position the number of a record, and the count of comparisons made.
 #[derive(Clone, Debug, PartialEq, Eq, Hash, Drop)]
 pub struct Found {
-    pub records: ArrayVec<usize, POSITIONS>,
+    pub records: ArrayVec<usize, MAX_POSITIONS>,
     pub comparisons: usize,
 }
 
-// What reading all records tells: what the walk over them finds for positions in normal form, and whether they fall.
-#[derive(Drop)]
-pub(crate) struct Walked {
-    pub found: Found,
-    pub falls: bool,
-}
-
 // Whether all positions are in normal form: refused with 3 and the index of the first that is not.
-// A loop of its own, as each list that is checked has: one function for all would take the check as a closure, and be no shorter to call.
 #[tactic(auto, using(crate::proofs::PageLaws::numbers_turn, crate::proofs::PageLaws::numbers_refused), unfolding(crate::specs::Searching::check_numbers))]
 fn check_normal(positions: &[Number]) -> Result<(), Refusal>
     ensures { meaning result ≡ check_numbers 0 positions.now }
@@ -98,11 +89,11 @@ pub(crate) fn check_records(falls: bool) -> Result<(), Refusal>
     Ok(())
 }
 
-// Whether a page can be looked for in records that can be read: refused with 3 and the position's index, then with 16, 14, 15.
-#[tactic(auto, using(crate::proofs::PageLaws::page_abnormal, crate::proofs::PageLaws::page_kind, crate::proofs::PageLaws::page_positions, crate::proofs::PageLaws::page_records))]
-fn check_page(images: &[Image], positions: &[Number], falls: bool) -> Result<(), Refusal>
+// Whether a page can be looked for, but for records that fall: refused with 3 and the position's index, then with 16, 14.
+#[tactic(auto, using(crate::proofs::PageLaws::page_abnormal, crate::proofs::PageLaws::page_kind, crate::proofs::PageLaws::page_positions), unfolding(crate::specs::Searching::refuse_where))]
+fn check_positions(images: &[Image], positions: &[Number]) -> Result<(), Refusal>
     requires { 0 < length images.now }
-    ensures { meaning result ≡ check_page images.now positions.now falls }
+    ensures { meaning result ≡ check_positions images.now positions.now }
 {
     check_normal(positions)?;
     check_kind(images)?;
@@ -112,62 +103,82 @@ fn check_page(images: &[Image], positions: &[Number], falls: bool) -> Result<(),
             place: 0,
         });
     }
-    check_records(falls)
+    Ok(())
 }
 
-// Reads all records of a file, each once: refused with 7 and the column within the first bad record. Tells whether they fall, and walks:
-// compares the current position with the current record, goes to the next position if the record is at least as large, else to the next
-// record, and ends when either runs out; positions left over take the record count.
-pub(crate) fn walk(file: &[u8], table: &Contents, positions: &[Number]) -> Result<Walked, Refusal>
-    requires { (done table.now ≡ mapped contents_of (read_file file.now)) × (length positions.now ≤ max_positions) }
-    ensures falls { mapped falls_in (meaning result) ≡ mapped fall (keys_read file.now) }
-    ensures found { check_numbers 0 positions.now ≡ done tt → mapped found_in (meaning result) ≡ mapped (walk 0 positions.now) (keys_read file.now) }
+// Whether a run is at least the least one, where there is one.
+#[tactic(auto, unfolding(codec::specs::Ordering::reaches))]
+fn reaches(least: Option<u64>, run: u64) -> bool
+    ensures { result ≡ reaches least run }
 {
+    match least {
+        Some(least) => least <= run,
+        None => false,
+    }
+}
+
+// How many bodies of one size stand before the first whose first column, so many bytes, reaches the least run.
+fn count_below(bodies: &[u8], body: usize, width: usize, least: Option<u64>) -> usize
+    requires { (width ≤ body) × (0 < body) × (length bodies.now % body ≡ 0) }
+    ensures { result ≡ first_reaching least (runs_in width body bodies.now) }
+{
+    let mut left = bodies;
+    let mut below = 0;
+    while !left.is_empty() {
+        if reaches(least, ordered_run(left, width)) {
+            break;
+        }
+        below += 1;
+        let (_, behind) = left.split_at(body);
+        left = behind;
+    }
+    below
+}
+
+// The walk over positions and records: it compares the current position with the current record, goes to the next position if the record
+// is at least as large, else to the next record, and ends when either runs out; positions left over take the record count.
+fn walk(contents: &Contents, bodies: &[u8], positions: &[Number]) -> Found
+    requires records { Ordered contents.now.images bodies.now }
+    requires page { (length positions.now ≤ max_positions) × (check_numbers 0 positions.now ≡ done tt) }
+    ensures { mapped (walk 0 positions.now) (first_columns_of contents.now.images (all_bodies (body_size contents.now.images) bodies.now)) ≡ done (search_of result) }
+{
+    let image = contents.images()[0];
+    let width = column_size(image);
+    let body = contents.body_size();
     let mut records = ArrayVec::new();
     let mut comparisons = 0;
-    let mut falls = false;
-    let mut last = None;
-    let mut left = positions;
-    for (record, body) in file[table.size..].chunks_exact(table.body).enumerate() {
-        let numbers = unpack_under(&table.images, body)?;
-        let number = numbers[0];
-        falls |= is_fallen(last, number);
-        while let Some((position, behind)) = left.split_first() {
-            comparisons += 1;
-            if !is_at_most(*position, number) {
-                break;
-            }
-            records.push(record);
-            left = behind;
-        }
-        last = Some(number);
+    let mut record = 0;
+    let mut left = bodies;
+    for position in positions {
+        let below = count_below(left, body, width, least_run(image, *position));
+        let (_, behind) = left.split_at(below * body);
+        left = behind;
+        record += below;
+        comparisons += below + usize::from(!left.is_empty());
+        records.push(record);
     }
-    let count = (file.len() - table.size) / table.body;
-    // By a loop, since extend of ArrayVec answers with a Result, and there is room for all.
-    for _ in left {
-        records.push(count);
+    Found {
+        records,
+        comparisons,
     }
-    Ok(Walked {
-        found: Found {
-            records,
-            comparisons,
-        },
-        falls,
-    })
 }
 
 // For each of a page's positions the first record of a file whose first column is at least the position, or the record count.
 // Refused as the file is, with 10 for the count of positions, with 7 and the column within the first bad record, with 3 and the
 // position's index, with 16 where the first column is signed or exponential, with 14 where positions fall, with 15 where records fall.
-#[tactic(auto, using(crate::proofs::SearchLaws::search_file, crate::proofs::SearchLaws::search_many, crate::proofs::SearchLaws::walked_bad, crate::proofs::SearchLaws::walked_page, crate::proofs::SearchLaws::walked_done), unfolding(decimal::specs::Answer::mapped))]
+#[tactic(auto, using(crate::proofs::SearchLaws::search_file, crate::proofs::SearchLaws::search_many), unfolding(decimal::specs::Answer::mapped))]
 pub fn find(file: &[u8], positions: &[Number]) -> Result<Found, Refusal>
     ensures { mapped search_of (meaning result) ≡ searching file.now positions.now }
 {
-    let table = read_file(file)?;
-    if POSITIONS < positions.len() {
+    let read = RecordFile::read(file)?;
+    if MAX_POSITIONS < positions.len() {
         return Err(Refusal::WRONG_COUNT);
     }
-    let walked = walk(file, &table, positions)?;
-    check_page(&table.images, positions, walked.falls)?;
-    Ok(walked.found)
+    let checked = read.checked()?;
+    let contents = checked.contents();
+    check_positions(contents.images(), positions)?;
+    let (_, bodies) = file.split_at(contents.size());
+    let width = column_size(contents.images()[0]);
+    check_records(bodies_fall(bodies, contents.body_size(), width))?;
+    Ok(walk(contents, bodies, positions))
 }
