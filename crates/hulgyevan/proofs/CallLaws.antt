@@ -1,16 +1,15 @@
 -- Laws of the calls for C, one for each case. Assumes nothing.
-use Rattle.std.proofs.Common.{◌≡◌, ℕ, ◌-◌, ◌/◌, List, length, refl, sym, ap, ◌∙◌}
+use Rattle.std.proofs.Common.{◌≡◌, ℕ, List, length, refl, sym, ap}
 use Rattle.decimal.specs.Answer.{Answer, done, refused, mapped}
 use Rattle.decimal.specs.declared.number.Number.{Number}
 use Rattle.decimal.proofs.AnswerLaws.{mapped_refused_back, then_next, then_refused}
-use Rattle.codec.specs.declared.contents.Contents.{Contents}
-use Rattle.codec.specs.Contents.{Table, contents_of}
-use Rattle.codec.specs.declared.walking.Walked.{Walked}
+use Rattle.codec.specs.Columns.{body_size}
+use Rattle.codec.specs.Contents.{Table}
+use Rattle.codec.specs.declared.walking.TextNumbers.{TextNumbers}
 use Rattle.codec.specs.Answers.{within}
 use Rattle.codec.specs.Unpacking.{unpacking}
 use Rattle.codec.specs.Walking.{Walk, walk_of}
-use Rattle.codec.proofs.ContentsLaws.{told_read}
-use Rattle.records.specs.Files.{record_count}
+use Rattle.records.specs.Files.RecordFile.{record_count}
 use Rattle.hulgyevan.specs.Outcomes.{refusal_word, outcome, value_or}
 use Rattle.hulgyevan.specs.Words.{words_of}
 use Rattle.hulgyevan.specs.Bodies.{columns_of, body_of, unpacking_words}
@@ -28,35 +27,36 @@ value_refused f g a before h = rw (mapped_refused_back f a h) refl
 
 -- The contents that the code reads.
 module _ (a : Answer Table) where
-  pub table_refused : {number place : ℕ} → refused number place ≡ mapped contents_of a → outcome a ≡ refusal_word number place
-  table_refused h = outcome_refused (sym (mapped_refused_back contents_of a h))
+  pub table_refused : {number place : ℕ} → refused number place ≡ a → outcome a ≡ refusal_word number place
+  table_refused h = outcome_refused h
 
-  module _ {r : Contents} (h : done r ≡ mapped contents_of a) where
+  pub table_kept : {number place : ℕ} → refused number place ≡ a → (g : Table → ℕ) (before : ℕ) → value_or (mapped g a) before ≡ before
+  unfolding value_or mapped
+  table_kept h g before = rw (sym h) refl
+
+  module _ {r : Table} (h : done r ≡ a) where
     pub table_word : outcome a ≡ 0
-    table_word = outcome_done (sym (told_read a h).reads)
+    table_word = outcome_done h
 
     module _ (before : ℕ) where
-      pub table_columns : value_or (mapped columns_of a) before ≡ length r.images.items
+      pub table_columns : value_or (mapped columns_of a) before ≡ length r.images
       unfolding value_or mapped
-      table_columns = let t = told_read a h in ap (λ (x : Answer Table). value_or (mapped columns_of x) before) t.reads ∙ ap length (sym t.images)
+      table_columns = ap (λ (x : Answer Table). value_or (mapped columns_of x) before) (sym h)
 
-      pub table_body : value_or (mapped body_of a) before ≡ r.body
+      pub table_body : value_or (mapped body_of a) before ≡ body_size r.images
       unfolding value_or mapped
-      table_body = let t = told_read a h in ap (λ (x : Answer Table). value_or (mapped body_of x) before) t.reads ∙ sym t.body
+      table_body = ap (λ (x : Answer Table). value_or (mapped body_of x) before) (sym h)
 
       pub table_size : value_or (mapped size_of_contents a) before ≡ r.size
       unfolding value_or mapped
-      table_size = let t = told_read a h in ap (λ (x : Answer Table). value_or (mapped size_of_contents x) before) t.reads ∙ sym t.size
+      table_size = ap (λ (x : Answer Table). value_or (mapped size_of_contents x) before) (sym h)
 
-      pub table_count : (file : List ℕ) → value_or (mapped (λ table. record_count table file) a) before ≡ (length file - r.size) / r.body
-      unfolding value_or mapped record_count
-      table_count file =
-          let t = told_read a h in
-          ap (λ (x : Answer Table). value_or (mapped (λ table. record_count table file) x) before) t.reads
-          ∙ λ i. (length file - sym t.size i) / sym t.body i
+      pub table_count : (file : List ℕ) → value_or (mapped (λ table. record_count table file) a) before ≡ record_count r file
+      unfolding value_or mapped
+      table_count file = ap (λ (x : Answer Table). value_or (mapped (λ table. record_count table file) x) before) (sym h)
 
 -- The words of numbers that a text has.
-module _ (walked : Walked) (walk : Walk) (same : walk_of walked ≡ walk) (room : ℕ) where
+module _ (walked : TextNumbers) (walk : Walk) (same : walk_of walked ≡ walk) (room : ℕ) where
   pub walk_stored : within room (words_of walked.numbers.items) ≡ walk_words walk room
   unfolding walk_words
   walk_stored = ap (λ (w : Walk). within room (words_of w.numbers)) same

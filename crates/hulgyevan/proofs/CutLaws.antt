@@ -16,13 +16,13 @@ use Rattle.codec.specs.Remainders.{packing_remainders}
 use Rattle.codec.proofs.PackLaws.{packs_length}
 use Rattle.codec.proofs.RemainderLaws.{left_refused, body_packs}
 use Rattle.codec.proofs.ContentsLaws.{alone_sound, contents_sound}
-use Rattle.records.specs.declared.reserving.Reservation.{Reservation}
-use Rattle.records.specs.Files.{read_file, read_used, added}
-use Rattle.records.specs.Printing.{max_elements, check_counts, printed, printing}
+use Rattle.records.specs.declared.files.reserving.Reservation.{Reservation}
+use Rattle.records.specs.Files.RecordFile.{read_file, read_used, added}
+use Rattle.records.specs.Lines.Printing.{max_elements, check_counts, printed, printing}
 use Rattle.rolls.specs.Searching.{max_positions, check_count, searching}
-use Rattle.records.specs.Reserving.{read_reserved, filled}
-use Rattle.records.proofs.FileLaws.{used_told, file_told}
-use Rattle.records.proofs.ReserveLaws.{read_same}
+use Rattle.records.specs.Files.Reserving.{read_reserved, filled}
+use Rattle.records.proofs.FileProofs.FileLaws.{used_told, file_told}
+use Rattle.records.proofs.FileProofs.ReserveLaws.{read_same}
 use Rattle.hulgyevan.specs.declared.lines.Element.{Element}
 use Rattle.hulgyevan.specs.Lines.{element_in, elements_in}
 use Rattle.hulgyevan.specs.Words.{number_in, numbers_in}

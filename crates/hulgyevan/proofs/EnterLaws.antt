@@ -1,7 +1,7 @@
 -- Laws of the call that enters records, one for each case. Assumes nothing.
 use Rattle.std.proofs.Common.{◌≡◌, ℕ, List, refl, sym, ap, arith}
-use Rattle.records.specs.Entering.{Entry, entered, rejected, at_line, next_of, sized_entry}
-use Rattle.records.proofs.EntryLaws.{never_entered, never_rejected}
+use Rattle.records.specs.Files.Entering.{Entry, entered, rejected, at_line, next_of, sized_entry}
+use Rattle.records.proofs.FileProofs.EntryLaws.{never_entered, never_rejected}
 use Rattle.hulgyevan.specs.Outcomes.{refusal_word, outcome, value_or}
 use Rattle.hulgyevan.specs.Files.{answer_in, line_or}
 

@@ -3,8 +3,8 @@ use Rattle.std.proofs.Common.{◌≡◌, ℕ, ◌-◌, ◌≤◌, List, sym, ap,
 use Rattle.std.specs.declared.ops.Range.{Range}
 use Rattle.decimal.specs.Answer.{Answer, done, refused, mapped}
 use Rattle.decimal.proofs.AnswerLaws.{mapped_back, mapped_refused_back}
-use Rattle.records.specs.Files.{Part, shown, range_of}
-use Rattle.records.proofs.FileLaws.{range_shown}
+use Rattle.records.specs.Files.RecordFile.{Part, shown, range_of}
+use Rattle.records.proofs.FileProofs.FileLaws.{range_shown}
 use Rattle.hulgyevan.specs.Outcomes.{refusal_word, outcome, value_or}
 use Rattle.hulgyevan.specs.Files.{part_start, part_size}
 use Rattle.hulgyevan.proofs.OutcomeLaws.{outcome_done, outcome_refused}

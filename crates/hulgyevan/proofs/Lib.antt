@@ -10,6 +10,7 @@ pub mod PlaceFileLaws
 pub mod PlaceTheorem
 pub mod CutLaws
 pub mod BothLaws
+pub mod AloneLaws
 pub mod CallLaws
 pub mod LineLaws
 pub mod RollLaws

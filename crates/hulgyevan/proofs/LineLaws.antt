@@ -2,8 +2,8 @@
 use Rattle.std.proofs.Common.{◌≡◌, ℕ, sym, ap, ◌∙◌}
 use Rattle.decimal.specs.Answer.{Answer, done, refused, mapped}
 use Rattle.decimal.proofs.AnswerLaws.{mapped_back, mapped_refused_back}
-use Rattle.records.specs.declared.printing.Printed.{Printed}
-use Rattle.records.specs.Printing.{Print, printed_of}
+use Rattle.records.specs.declared.lines.printing.Printed.{Printed}
+use Rattle.records.specs.Lines.Printing.{Print, printed_of}
 use Rattle.hulgyevan.specs.Outcomes.{refusal_word, outcome, value_or}
 use Rattle.hulgyevan.specs.Lines.{printed_size, spilled_of}
 use Rattle.hulgyevan.proofs.OutcomeLaws.{outcome_done, outcome_refused}

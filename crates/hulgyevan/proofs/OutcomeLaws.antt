@@ -3,7 +3,7 @@ use Rattle.std.proofs.Common.{◌≡◌, ℕ, List, refl, sym, ap, ◌∙◌}
 use Rattle.decimal.specs.Answer.{Answer, done, refused, mapped, ◌then◌}
 use Rattle.decimal.proofs.AnswerLaws.{never_done}
 use Rattle.codec.specs.Answers.{sized}
-use Rattle.records.specs.Files.{new_length}
+use Rattle.records.specs.Files.RecordFile.{new_length}
 use Rattle.hulgyevan.specs.Outcomes.{refusal_word, outcome, value_or}
 
 -- the word of an answer says nothing of its result

@@ -10,9 +10,9 @@ use Rattle.codec.specs.Contents.{Table, read_alone}
 use Rattle.codec.specs.Lists.{max_columns}
 use Rattle.codec.specs.Text.{read_text, reading_in, legal_length}
 use Rattle.codec.proofs.ContentsLaws.{alone_count}
-use Rattle.records.specs.Listing.{columns_word}
-use Rattle.records.specs.Writing.{decimal_text}
-use Rattle.records.specs.Entering.{placed, is_parted, read_parted, numbers_of, read_line, line_body, Entry, entered, rejected, at_line, first_of, on_line, next_of, begins_with, check_count, is_foot, line_bodies, text_bodies, lines_in, entry_of, entering}
+use Rattle.records.specs.Files.Listing.{columns_word}
+use Rattle.records.specs.Files.Writing.{decimal_text}
+use Rattle.records.specs.Files.Entering.{placed, is_parted, read_parted, numbers_of, read_line, line_body, Entry, entered, rejected, at_line, first_of, on_line, next_of, begins_with, check_count, is_foot, line_bodies, text_bodies, lines_in, entry_of, entering}
 use Rattle.hulgyevan.specs.Outcomes.{places_end, Near}
 use Rattle.hulgyevan.specs.Files.{answer_in}
 use Rattle.hulgyevan.proofs.PlaceLaws.{near_at, near_zero, near_within, near_alone, near_list}

@@ -25,17 +25,17 @@ use Rattle.codec.specs.Text.{TextParts, text_value, all_digits_of, parts_in, no_
 use Rattle.codec.specs.Unpacking.{unpack_body}
 use Rattle.codec.specs.Walking.{Walk, stop_before, stopped, with_number, numbers_in, walking, walk_meaning}
 use Rattle.codec.proofs.ContentsLaws.{contents_sound}
-use Rattle.records.specs.declared.fields.Element.{Element}
-use Rattle.records.specs.declared.fields.Element.TheVariants as element
-use Rattle.records.specs.declared.reserving.Reservation.{Reservation}
-use Rattle.records.specs.Files.{read_file, read_used, bodies_in}
-use Rattle.records.specs.Listing.{record_lines}
-use Rattle.records.specs.Printing.{max_elements, max_line, check_counts, check_fields, check_element, check_elements}
-use Rattle.records.specs.Reserving.{check_place, read_for, read_reserved}
-use Rattle.records.specs.Scanning.{field_length}
-use Rattle.records.proofs.FileLaws.{file_told, used_told}
-use Rattle.records.proofs.ReserveLaws.{read_same}
-use Rattle.rolls.specs.Searching.{max_positions, keys_of, keys_in, check_numbers}
+use Rattle.records.specs.declared.lines.fields.Element.{Element}
+use Rattle.records.specs.declared.lines.fields.Element.TheVariants as element
+use Rattle.records.specs.declared.files.reserving.Reservation.{Reservation}
+use Rattle.records.specs.Files.RecordFile.{read_file, read_used, bodies_in}
+use Rattle.records.specs.Files.Listing.{record_lines}
+use Rattle.records.specs.Lines.Printing.{max_elements, max_line, check_counts, check_fields, check_element, check_elements}
+use Rattle.records.specs.Files.Reserving.{check_place, read_for, read_reserved}
+use Rattle.records.specs.Lines.Scanning.{field_length}
+use Rattle.records.proofs.FileProofs.FileLaws.{file_told, used_told}
+use Rattle.records.proofs.FileProofs.ReserveLaws.{read_same}
+use Rattle.rolls.specs.Searching.{max_positions, first_columns_of, first_columns_in, check_numbers}
 use Rattle.rolls.specs.Merging.{read_whole}
 use Rattle.hulgyevan.specs.Outcomes.{places_end, Near}
 use Rattle.hulgyevan.proofs.PlaceLaws.{near_at, near_zero, only_told, near_within, near_scaled, near_image, near_truncation, near_contents, near_list, near_body}
@@ -192,18 +192,18 @@ near_lines ims (body ∷ bs) l =
 
 -- Rolls.
 
-pub near_keys : (ims : List Image) (bodies : List (List ℕ)) → length ims ≤ max_columns → RefusesOnly Near (keys_of ims bodies)
-unfolding keys_of
-near_keys ims [] l = only_done
-near_keys ims (body ∷ bs) l =
+pub near_first_columns : (ims : List Image) (bodies : List (List ℕ)) → length ims ≤ max_columns → RefusesOnly Near (first_columns_of ims bodies)
+unfolding first_columns_of
+near_first_columns ims [] l = only_done
+near_first_columns ims (body ∷ bs) l =
     only_then (unpack_body ims body) (near_body ims body l)
-    (λ ns. only_then (keys_of ims bs) (near_keys ims bs l) (λ keys. only_done))
+    (λ ns. only_then (first_columns_of ims bs) (near_first_columns ims bs l) (λ columns. only_done))
 
 pub near_whole : (file : List ℕ) → RefusesOnly Near (read_whole file)
 unfolding read_whole
 near_whole file =
     only_told (read_file file) (near_file file)
-    (λ table h. only_then (keys_in table file) (near_keys table.images (bodies_in table file) (file_few file h)) (λ keys. only_done))
+    (λ table h. only_then (first_columns_in table file) (near_first_columns table.images (bodies_in table file) (file_few file h)) (λ columns. only_done))
 
 pub near_positions : (index : ℕ) (ps : List Number) → index + length ps ≤ max_positions → RefusesOnly Near (check_numbers index ps)
 unfolding check_numbers

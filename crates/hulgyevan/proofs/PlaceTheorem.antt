@@ -18,14 +18,14 @@ use Rattle.codec.specs.Text.{reading_in, legal_length, read_text, convert_text}
 use Rattle.codec.specs.Unpacking.{unpacking}
 use Rattle.codec.specs.Walking.{Walk, walking, walk_meaning}
 use Rattle.codec.proofs.ContentsLaws.{alone_sound}
-use Rattle.records.specs.declared.fields.Element.{Element}
-use Rattle.records.specs.declared.reserving.Reservation.{Reservation}
-use Rattle.records.specs.Fields.{read_marked, read_field}
-use Rattle.records.specs.Files.{starting_file, read_file, read_used, record_count, bodies_in, added, shown}
-use Rattle.records.specs.Listing.{file_lines, listing, listed}
-use Rattle.records.specs.Printing.{has_field, check_counts, check_fields, check_some, check_elements, printed, room_for, printing, forecasting}
-use Rattle.records.specs.Reserving.{reserved, read_reserved, filled}
-use Rattle.rolls.specs.Searching.{max_positions, keys_in, check_count, check_numbers, check_kind, refuse_where, check_page, searching, is_unsigned_fixed}
+use Rattle.records.specs.declared.lines.fields.Element.{Element}
+use Rattle.records.specs.declared.files.reserving.Reservation.{Reservation}
+use Rattle.records.specs.Lines.Fields.{read_marked, read_field}
+use Rattle.records.specs.Files.RecordFile.{starting_file, read_file, read_used, record_count, bodies_in, added, shown}
+use Rattle.records.specs.Files.Listing.{file_lines, listing, listed}
+use Rattle.records.specs.Lines.Printing.{has_field, check_counts, check_fields, check_some, check_elements, printed, room_for, printing, forecasting}
+use Rattle.records.specs.Files.Reserving.{reserved, read_reserved, filled}
+use Rattle.rolls.specs.Searching.{max_positions, first_columns_in, check_count, check_numbers, check_kind, refuse_where, check_page, searching, is_unsigned_fixed}
 use Rattle.rolls.specs.Falling.{fall}
 use Rattle.rolls.specs.Merging.{read_whole, contents_in, check_pair, common_table, merged_file, merging}
 use Rattle.hulgyevan.specs.Outcomes.{refusal_word, outcome, Told, Near, CallTells}
@@ -34,12 +34,12 @@ use Rattle.hulgyevan.specs.Bodies.{unpacking_words, packing_both}
 use Rattle.hulgyevan.specs.Texts.{walk_words}
 use Rattle.hulgyevan.specs.Files.{answer_in}
 use Rattle.hulgyevan.specs.Roll.{finding}
-use Rattle.records.specs.Entering.{entering}
-use Rattle.records.specs.Cutting.{whole_length_of}
+use Rattle.records.specs.Files.Entering.{entering}
+use Rattle.records.specs.Files.WholeLength.{whole_length_of}
 use Rattle.hulgyevan.proofs.PlaceEntryLaws.{near_entering}
 use Rattle.hulgyevan.proofs.OutcomeTheorem.{outcome_tells}
 use Rattle.hulgyevan.proofs.PlaceLaws.{near_zero, only_told, near_within, near_parts, near_scaled, near_comparison, near_contents, near_alone, near_list, near_body}
-use Rattle.hulgyevan.proofs.PlaceFileLaws.{near_alpha, near_reading, near_stop, near_fields, near_elements, near_counts, counts_told, near_file, near_used, file_few, used_few, near_reserved, reserved_few, near_behind, near_lines, near_keys, near_whole, near_positions}
+use Rattle.hulgyevan.proofs.PlaceFileLaws.{near_alpha, near_reading, near_stop, near_fields, near_elements, near_counts, counts_told, near_file, near_used, file_few, used_few, near_reserved, reserved_few, near_behind, near_lines, near_first_columns, near_whole, near_positions}
 
 -- such a refusal is told by its word, which is small
 near_told : {number place : ℕ} → Near number place → Told number place
@@ -242,8 +242,8 @@ unfolding searching check_count
 near_searching file ps =
     only_told (read_file file) (near_file file)
     (λ table h. only_told (check_count ps) (only_choice (leb (length ps) max_positions) only_done (near_zero 10 refl))
-    (λ v c. only_then (keys_in table file) (near_keys table.images (bodies_in table file) (file_few file h))
-    (λ keys. only_then (check_page table.images ps (fall keys)) (near_page table.images ps (fall keys) (count_told ps c)) (λ _. only_done))))
+    (λ v c. only_then (first_columns_in table file) (near_first_columns table.images (bodies_in table file) (file_few file h))
+    (λ columns. only_then (check_page table.images ps (fall columns)) (near_page table.images ps (fall columns) (count_told ps c)) (λ _. only_done))))
 
 pub finding_tells : (file : List ℕ) (ps : List Number) (room : ℕ) → CallTells (finding file ps room)
 unfolding finding

@@ -1,11 +1,11 @@
 -- What the calls for record files give in words.
 use Rattle.std.specs.Prelude.{ℕ}
 use Rattle.codec.specs.Contents.{Table}
-use Rattle.records.specs.declared.reserving.Reservation.{Reservation}
-use Rattle.records.specs.declared.cutting.Whole.{Whole}
+use Rattle.records.specs.declared.files.reserving.Reservation.{Reservation}
+use Rattle.records.specs.declared.files.whole.WholeLength.{WholeLength}
 use Rattle.decimal.specs.Answer.{Answer, done, refused}
-use Rattle.records.specs.Files.{Part}
-use Rattle.records.specs.Entering.{Entry, entered, rejected, at_line}
+use Rattle.records.specs.Files.RecordFile.{Part}
+use Rattle.records.specs.Files.Entering.{Entry, entered, rejected, at_line}
 
 -- the length of a file's contents
 abbrev pub size_of_contents : Table → ℕ
@@ -38,8 +38,8 @@ line_or (rejected number place) before = 0
 line_or (at_line line number place) before = line
 
 -- the whole length of a file, and the bytes behind it
-abbrev pub whole_size : Whole → ℕ
+abbrev pub whole_size : WholeLength → ℕ
 whole_size w = w.length
 
-abbrev pub whole_behind : Whole → ℕ
+abbrev pub whole_behind : WholeLength → ℕ
 whole_behind w = w.behind

@@ -16,12 +16,12 @@ use Rattle.codec.specs.Packing as bodies
 use Rattle.codec.specs.Remainders.{cut_columns, packing_remainders}
 use Rattle.codec.specs.Unpacking.{all_digits, all_zero, sign_part, digit_part, exponent_part, pad_part, said_by, breaks_rules, as_half, parts_number, halves_number, unpack_column, unpack_columns, unpack_body, unpacking}
 use Rattle.codec.specs.declared.walking.Stop.TheVariants as gives
-use Rattle.records.specs.declared.fields.Element.TheVariants as elements
-use Rattle.records.specs.Files.{read_file, record_count, bodies_in, shown, read_used}
-use Rattle.records.specs.Files as files
-use Rattle.records.specs.Reserving.{reserved}
+use Rattle.records.specs.declared.lines.fields.Element.TheVariants as elements
+use Rattle.records.specs.Files.RecordFile.{read_file, record_count, bodies_in, shown, read_used}
+use Rattle.codec.specs.Bodies as whole
+use Rattle.records.specs.Files.Reserving.{reserved}
 use Rattle.rolls.specs.Falling.{at_most, fall}
-use Rattle.rolls.specs.Searching.{keys_of, first_record, first_records, giving, comparing, walk, found, check_count, check_numbers, check_kind, refuse_where, check_page, searching}
+use Rattle.rolls.specs.Searching.{first_columns_of, first_record, first_records, giving, comparing, walk, found, check_count, check_numbers, check_kind, refuse_where, check_page, searching}
 use Rattle.hulgyevan.specs.declared.lines.Element.{Element}
 use Rattle.hulgyevan.specs.Words.{number_in, numbers_in, fields_word, word_of, remainder_word}
 use Rattle.hulgyevan.specs.Outcomes.{refusal_word, outcome}
@@ -103,7 +103,7 @@ unfolding one_column two_columns twelve more_than_twelve hundred only element nu
     bodies.body_of cut_columns packing_remainders cut_power cut_off packed_truncation truncation packable limited exceeds exponent_outside truncated_to whole_of stored_exponent check_number
     normal magnitude column_bytes column_halves sign_halves exponent_halves pack_halves digits_of value_of zeros leading_zeros shifted_number scaled_number
     number_of halves_of all_digits all_zero sign_part digit_part exponent_part pad_part said_by breaks_rules as_half parts_number halves_number
-    unpack_column unpack_columns unpack_body unpacking read_file read_used record_count files.bodies bodies_in shown reserved at_most fall keys_of
+    unpack_column unpack_columns unpack_body unpacking read_file read_used record_count whole.bodies bodies_in shown reserved at_most fall first_columns_of
     first_record first_records giving comparing walk found check_count check_numbers check_kind refuse_where check_page searching whole_order signed_order
     value_order ◌then◌
 known_calls =

@@ -11,11 +11,11 @@ use Rattle.codec.specs.Lists.{filled}
 use Rattle.codec.specs.Text.{fraction_digits, sign_part_bytes, point_bytes, power_bytes, numeral_bytes, text_bytes, is_minus, has_minus, power_value, text_value, digits_in}
 use Rattle.codec.specs.Text.{sign_part, sign_part_in, point_in, power_of, power_in, numeral_in, parts_in, reading_in, read_text}
 use Rattle.codec.specs.Walking.{stop_before, stopped, with_number, numbers_in, walking}
-use Rattle.records.specs.Scanning.{longest_from, field_length}
-use Rattle.records.specs.Marks.{with_decimal}
-use Rattle.records.specs.Fields.{sign_byte_of, fill_byte, fill_next, fill_bytes, shown_marked, number_marked, or_field, spilled_by, element_bytes, element_spills, text_in}
-use Rattle.records.specs.Printing.{literals, first_field, behind_field, has_field, and_then, one_field, print_from, check_fields}
-use Rattle.records.specs.Printing.{check_element, check_elements, check_some, check_counts, printed, room_for, printing}
+use Rattle.records.specs.Lines.Scanning.{longest_from, field_length}
+use Rattle.records.specs.Lines.Marks.{with_decimal}
+use Rattle.records.specs.Lines.Fields.{sign_byte_of, fill_byte, fill_next, fill_bytes, shown_marked, number_marked, or_field, spilled_by, element_bytes, element_spills, text_in}
+use Rattle.records.specs.Lines.Printing.{literals, first_field, behind_field, has_field, and_then, one_field, print_from, check_fields}
+use Rattle.records.specs.Lines.Printing.{check_element, check_elements, check_some, check_counts, printed, room_for, printing}
 use Rattle.hulgyevan.specs.declared.lines.Element.{Element}
 use Rattle.hulgyevan.specs.Words.{number_in, fields_word, word_of}
 use Rattle.hulgyevan.specs.Outcomes.{refusal_word, outcome}

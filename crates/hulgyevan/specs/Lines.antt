@@ -1,9 +1,9 @@
 -- What the calls for print lines take in words.
 use Rattle.std.specs.Prelude.{ℕ, List, map, length, eqb}
 use Rattle.decimal.specs.Answer.{pick}
-use Rattle.records.specs.declared.fields.Element as records
-use Rattle.records.specs.declared.fields.Element.TheVariants.{Number, Text}
-use Rattle.records.specs.Printing.{Print}
+use Rattle.records.specs.declared.lines.fields.Element as records
+use Rattle.records.specs.declared.lines.fields.Element.TheVariants.{Number, Text}
+use Rattle.records.specs.Lines.Printing.{Print}
 use Rattle.hulgyevan.specs.declared.lines.Element.{Element}
 use Rattle.hulgyevan.specs.Words.{number_in}
 

@@ -1,28 +1,31 @@
 // Record files: calls of the layer records.
-ghost use Rattle.std.specs.Prelude.{◌≡◌, length};
-ghost use Rattle.decimal.specs.Answer.{mapped};
+ghost use Rattle.std.specs.Prelude.{◌≡◌, ◌+◌, ◌≤◌, length, take};
+ghost use Rattle.decimal.specs.Answer.{meaning, mapped};
+ghost use Rattle.codec.specs.Lists.{max_columns};
 ghost use Rattle.codec.specs.Answers.{stored_in, sized};
-ghost use Rattle.records.specs.Files.{starting_file, read_file, record_count, added, new_length, written_behind, shown};
-ghost use Rattle.records.specs.Reserving.{reserved, filled};
-ghost use Rattle.records.specs.Listing.{listed};
-ghost use Rattle.records.specs.Entering.{entering, sized_entry, stored_entry};
-ghost use Rattle.records.specs.Cutting.{whole_length_of};
+ghost use Rattle.records.specs.Files.RecordFile.{starting_file, read_file, record_count, added, new_length, written_behind, shown, range_of};
+ghost use Rattle.records.specs.Files.Reserving.{reserved, filled};
+ghost use Rattle.records.specs.Files.Listing.{listed};
+ghost use Rattle.records.specs.Files.Entering.{entering, sized_entry, stored_entry};
+ghost use Rattle.records.specs.Files.WholeLength.{whole_length_of};
 ghost use Rattle.hulgyevan.specs.Words.{numbers_in};
 ghost use Rattle.hulgyevan.specs.Outcomes.{outcome, value_or};
 ghost use Rattle.hulgyevan.specs.Bodies.{columns_of, body_of};
 ghost use Rattle.hulgyevan.specs.Files.{size_of_contents, reserved_start, reserved_size, part_start, part_size, answer_in, line_or, whole_size, whole_behind};
 
-use crate::words::{LIST, give_size, numbers_of, refusal_word};
+use crate::words::{FEW, NUMBERS, give_size, numbers_of, refusal_word};
+use decimal::Refusal;
 use records::{
-    EntryRefusal, Reservation, add, enter, list, read_file, reserve, show, whole_length,
-    write_contents, write_reserved,
+    EntryRefusal, RecordFile, Reservation, add, enter, list, reserve, whole_length, write_contents,
+    write_reserved,
 };
+use std::ops::Range;
 
 // The count of columns of a record file, the length of its contents, that of a body, and the count of records; refused as the contents is,
 // then with 11 where a last body is incomplete.
-#[tactic(auto, using(records::proofs::FileLaws::read_within, records::proofs::FileLaws::read_some, crate::proofs::CallLaws::table_word, crate::proofs::CallLaws::table_refused, crate::proofs::CallLaws::table_columns, crate::proofs::CallLaws::table_size, crate::proofs::CallLaws::table_body, crate::proofs::CallLaws::table_count, crate::proofs::CallLaws::value_refused))]
+#[tactic(auto, using(crate::proofs::CallLaws::table_word, crate::proofs::CallLaws::table_refused, crate::proofs::CallLaws::table_columns, crate::proofs::CallLaws::table_size, crate::proofs::CallLaws::table_body, crate::proofs::CallLaws::table_count, crate::proofs::CallLaws::table_kept), unfolding(decimal::specs::Answer::mapped))]
 #[unsafe(no_mangle)]
-pub extern "C" fn hulgyevan_file(
+pub extern "C" fn hulgyevan_read_file(
     file: &[u8],
     columns: &mut usize,
     contents_size: &mut usize,
@@ -35,12 +38,12 @@ pub extern "C" fn hulgyevan_file(
     ensures body { body.new ≡ value_or (mapped body_of (read_file file.now)) body.old }
     ensures records { records.new ≡ value_or (mapped (λ table. record_count table file.now) (read_file file.now)) records.old }
 {
-    match read_file(file) {
-        Ok(table) => {
-            *columns = table.images.len();
-            *contents_size = table.size;
-            *body = table.body;
-            *records = (file.len() - table.size) / table.body;
+    match RecordFile::read(file) {
+        Ok(read) => {
+            *columns = read.contents().images().len();
+            *contents_size = read.contents().size();
+            *body = read.contents().body_size();
+            *records = read.count();
             0
         }
         Err(refusal) => refusal_word(refusal),
@@ -63,6 +66,20 @@ pub extern "C" fn hulgyevan_write_contents(
     give_size(write_contents(contents, buffer), used)
 }
 
+// Adds a record of the numbers of the first N words.
+fn add_first<const N: usize>(
+    used: usize,
+    words: &[u64],
+    buffer: &mut [u8],
+) -> Result<usize, Refusal>
+    requires { N ≤ max_columns + 1 }
+    ensures answer { meaning result ≡ new_length used (added buffer.old used (numbers_in (take N words.now))) }
+    ensures bytes { buffer.new ≡ written_behind used (added buffer.old used (numbers_in (take N words.now))) buffer.old }
+{
+    let list = numbers_of::<N>(words);
+    add(used, &list, buffer)
+}
+
 // Adds a record to the file in the first bytes of a buffer, and gives the used length with it: all other bytes stay. Refused with 11 for
 // the used length, as the file is, with 10, items from the left with 3, 4, 5 and the column, last with 6; then nothing changes.
 #[tactic(auto, using(crate::proofs::OutcomeLaws::outcome_length, crate::proofs::CutLaws::cut_added))]
@@ -77,8 +94,12 @@ pub extern "C" fn hulgyevan_add(
     ensures used { new_used.new ≡ value_or (new_length used (added buffer.old used (numbers_in numbers.now))) new_used.old }
     ensures bytes { buffer.new ≡ written_behind used (added buffer.old used (numbers_in numbers.now)) buffer.old }
 {
-    let list = numbers_of::<LIST>(numbers);
-    give_size(add(used, &list, buffer), new_used)
+    let written = if numbers.len() <= FEW {
+        add_first::<FEW>(used, numbers, buffer)
+    } else {
+        add_first::<NUMBERS>(used, numbers, buffer)
+    };
+    give_size(written, new_used)
 }
 
 // Reserves the place of a record behind the file in the first bytes of a buffer: gives where it goes, and how many bytes it fills.
@@ -105,6 +126,21 @@ pub extern "C" fn hulgyevan_reserve(
     }
 }
 
+// Writes a record of the numbers of the first N words where its place was reserved.
+fn write_first<const N: usize>(
+    used: usize,
+    reservation: Reservation,
+    words: &[u64],
+    buffer: &mut [u8],
+) -> Result<usize, Refusal>
+    requires { N ≤ max_columns + 1 }
+    ensures answer { meaning result ≡ new_length used (filled buffer.old used reservation (numbers_in (take N words.now))) }
+    ensures bytes { buffer.new ≡ written_behind used (filled buffer.old used reservation (numbers_in (take N words.now))) buffer.old }
+{
+    let list = numbers_of::<N>(words);
+    write_reserved(used, reservation, &list, buffer)
+}
+
 // Writes a record where its place was reserved, and gives the used length with it: all other bytes stay. Refused with 11 for the used
 // length, as the contents is, with 18 where the place is another now, then as hulgyevan_add is; then nothing changes.
 #[tactic(auto, using(crate::proofs::OutcomeLaws::outcome_length, crate::proofs::CutLaws::cut_filled))]
@@ -121,11 +157,21 @@ pub extern "C" fn hulgyevan_write_reserved(
     ensures used { new_used.new ≡ value_or (new_length used (filled buffer.old used (record { start = start; size = size }) (numbers_in numbers.now))) new_used.old }
     ensures bytes { buffer.new ≡ written_behind used (filled buffer.old used (record { start = start; size = size }) (numbers_in numbers.now)) buffer.old }
 {
-    let list = numbers_of::<LIST>(numbers);
-    give_size(
-        write_reserved(used, Reservation { start, size }, &list, buffer),
-        new_used,
-    )
+    let reservation = Reservation { start, size };
+    let written = if numbers.len() <= FEW {
+        write_first::<FEW>(used, reservation, numbers, buffer)
+    } else {
+        write_first::<NUMBERS>(used, reservation, numbers, buffer)
+    };
+    give_size(written, new_used)
+}
+
+// Where the body of a record stands in a file, by its number from 0: refused as the file is, then with 12.
+#[tactic(auto, using(records::proofs::FileProofs::FileLaws::shown_refused), unfolding(decimal::specs::Answer::mapped))]
+fn place_in(file: &[u8], index: usize) -> Result<Range<usize>, Refusal>
+    ensures { meaning result ≡ mapped range_of (shown file.now index) }
+{
+    RecordFile::read(file)?.place(index)
 }
 
 // Where the body of a record stands in a file, by its number from 0, and how many bytes it fills; refused as the file is, then with 12.
@@ -141,7 +187,7 @@ pub extern "C" fn hulgyevan_show(
     ensures start { start.new ≡ value_or (mapped part_start (shown file.now index)) start.old }
     ensures size { size.new ≡ value_or (mapped part_size (shown file.now index)) size.old }
 {
-    match show(file, index) {
+    match place_in(file, index) {
         Ok(range) => {
             *start = range.start;
             *size = range.end - range.start;

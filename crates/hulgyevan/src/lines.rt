@@ -1,17 +1,18 @@
 // Print lines: calls of the layer records.
-ghost use Rattle.std.specs.Prelude.{◌≡◌, ◌+◌, length, take, drop};
-ghost use Rattle.decimal.specs.Answer.{mapped};
+ghost use Rattle.std.specs.Prelude.{◌≡◌, ◌+◌, ◌≤◌, length, take, drop};
+ghost use Rattle.decimal.specs.Answer.{meaning, mapped};
 ghost use Rattle.codec.specs.Answers.{stored_in};
-ghost use Rattle.records.specs.Fields.{read_field};
-ghost use Rattle.records.specs.Scanning.{field_length};
-ghost use Rattle.records.specs.Printing.{max_elements, printing, forecasting, bytes_of};
+ghost use Rattle.records.specs.Lines.Fields.{read_field};
+ghost use Rattle.records.specs.Lines.Scanning.{field_length};
+ghost use Rattle.records.specs.Lines.Printing.{max_elements, printing, forecasting, printed_of, bytes_of};
 ghost use Rattle.hulgyevan.specs.Words.{word_of};
 ghost use Rattle.hulgyevan.specs.Outcomes.{outcome, value_or};
 ghost use Rattle.hulgyevan.specs.Lines.{element_in, elements_in, printed_size, spilled_of};
 
-use crate::words::{give_number, give_size, number_of, refusal_word};
+use crate::words::{FEW, give_number, give_size, number_of, refusal_word};
 use arrayvec::ArrayVec;
-use records::{ELEMENTS, forecast, print, read_field, scan};
+use decimal::Refusal;
+use records::{MAX_ELEMENTS, Printed, forecast, print, read_field, scan};
 
 // An element of a line: of kind 0 the number of a word, of any other kind a text by a start and a length into lent bytes.
 #[derive(Clone, Copy)]
@@ -36,11 +37,11 @@ fn element_of(element: Element) -> records::Element
 }
 
 // One element more than a line takes: a longer list is refused as its first so many elements are.
-const LIST: usize = ELEMENTS + 1;
+const ELEMENTS: usize = MAX_ELEMENTS + 1;
 
-// The elements of the layer records, of the first so many.
-fn elements_of(elements: &[Element]) -> ArrayVec<records::Element, LIST>
-    ensures { result.items ≡ elements_in (take (max_elements + 1) elements.now) }
+// The elements of the layer records, of the first N.
+fn elements_of<const N: usize>(elements: &[Element]) -> ArrayVec<records::Element, N>
+    ensures { result.items ≡ elements_in (take N elements.now) }
 {
     let mut list = ArrayVec::new();
     for element in elements {
@@ -60,6 +61,21 @@ pub extern "C" fn hulgyevan_scan(line: &[u8], at: usize) -> usize
     scan(line, at)
 }
 
+// Prints a line image with the first N elements.
+fn print_first<const N: usize>(
+    line: &[u8],
+    elements: &[Element],
+    texts: &[u8],
+    buffer: &mut [u8],
+) -> Result<Printed, Refusal>
+    requires { N ≤ max_elements + 1 }
+    ensures answer { meaning result ≡ mapped printed_of (printing line.now (elements_in (take N elements.now)) texts.now (length buffer.old)) }
+    ensures bytes { buffer.new ≡ stored_in (mapped bytes_of (printing line.now (elements_in (take N elements.now)) texts.now (length buffer.old))) buffer.old }
+{
+    let list = elements_of::<N>(elements);
+    print(line, &list, texts, buffer)
+}
+
 // Prints a line image with elements into a buffer, and gives the count of bytes and that of spilled elements: the bytes behind stay.
 // Refused with 10, with 2 and the field, with 9, elements from the left with 13 or 3, last with 6; then nothing changes.
 #[tactic(auto, using(crate::proofs::CutLaws::cut_printing, crate::proofs::CallLaws::value_refused, crate::proofs::LineLaws::printed_refused, crate::proofs::LineLaws::printed_word, crate::proofs::LineLaws::printed_bytes, crate::proofs::LineLaws::printed_spilled))]
@@ -77,8 +93,12 @@ pub extern "C" fn hulgyevan_print(
     ensures spilled { spilled.new ≡ value_or (mapped spilled_of (printing line.now (elements_in elements.now) texts.now (length buffer.old))) spilled.old }
     ensures bytes { buffer.new ≡ stored_in (mapped bytes_of (printing line.now (elements_in elements.now) texts.now (length buffer.old))) buffer.old }
 {
-    let list = elements_of(elements);
-    match print(line, &list, texts, buffer) {
+    let printed = if elements.len() <= FEW {
+        print_first::<FEW>(line, elements, texts, buffer)
+    } else {
+        print_first::<ELEMENTS>(line, elements, texts, buffer)
+    };
+    match printed {
         Ok(printed) => {
             *size = printed.bytes;
             *spilled = printed.spilled;

@@ -1,23 +1,45 @@
 // Whole files of a roll: the calls of the layer rolls.
-ghost use Rattle.std.specs.Prelude.{◌≡◌, length};
-ghost use Rattle.decimal.specs.Answer.{mapped};
+ghost use Rattle.std.specs.Prelude.{◌≡◌, ◌+◌, ◌≤◌, length, take};
+ghost use Rattle.decimal.specs.Answer.{meaning, mapped};
 ghost use Rattle.codec.specs.Answers.{stored_in, sized};
 ghost use Rattle.rolls.specs.Merging.{merging};
+ghost use Rattle.rolls.specs.Searching.{max_positions, search_of, searching};
 ghost use Rattle.hulgyevan.specs.Words.{numbers_in};
 ghost use Rattle.hulgyevan.specs.Outcomes.{outcome, value_or};
 ghost use Rattle.hulgyevan.specs.Roll.{finding, found_records, found_comparisons};
 
-use crate::words::{give_size, numbers_of, refusal_word, store_sizes};
+use crate::words::{FEW, give_size, numbers_of, refusal_word, store_sizes};
 use decimal::Refusal;
-use rolls::{POSITIONS, find, merge};
+use rolls::{Found, MAX_POSITIONS, find, merge};
 
 // One position more than a page has: a longer list is refused as its first so many positions are.
-const LIST: usize = POSITIONS + 1;
+const POSITIONS: usize = MAX_POSITIONS + 1;
+
+// Finds the numbers of the first N words.
+fn find_first<const N: usize>(file: &[u8], words: &[u64]) -> Result<Found, Refusal>
+    requires { N ≤ max_positions + 1 }
+    ensures { mapped search_of (meaning result) ≡ searching file.now (numbers_in (take N words.now)) }
+{
+    let list = numbers_of::<N>(words);
+    find(file, &list)
+}
+
+// Finds the numbers of words.
+#[tactic(auto, using(crate::proofs::CutLaws::cut_searching))]
+fn find_words(file: &[u8], words: &[u64]) -> Result<Found, Refusal>
+    ensures { mapped search_of (meaning result) ≡ searching file.now (numbers_in words.now) }
+{
+    if words.len() <= FEW {
+        find_first::<FEW>(file, words)
+    } else {
+        find_first::<POSITIONS>(file, words)
+    }
+}
 
 // For each of a page's positions the first record of a file whose first column is at least the position, or the record count, and the
 // count of comparisons. Refused as the file is, with 10 for the count of positions, with 7 and the column within the first bad record, with
 // 3 and the position's index, with 16, 14, 15, last with 6 where the slice is shorter than the list; then nothing changes.
-#[tactic(auto, using(crate::proofs::CutLaws::cut_searching, crate::proofs::CallLaws::value_refused, crate::proofs::RollLaws::finds_refused, crate::proofs::RollLaws::finds_long, crate::proofs::RollLaws::finds_done), unfolding(crate::specs::Outcomes::outcome, crate::specs::Outcomes::value_or, decimal::specs::Answer::mapped, codec::specs::Answers::stored_in))]
+#[tactic(auto, using(crate::proofs::CallLaws::value_refused, crate::proofs::RollLaws::finds_refused, crate::proofs::RollLaws::finds_long, crate::proofs::RollLaws::finds_done), unfolding(crate::specs::Outcomes::outcome, crate::specs::Outcomes::value_or, decimal::specs::Answer::mapped, codec::specs::Answers::stored_in))]
 #[unsafe(no_mangle)]
 pub extern "C" fn hulgyevan_find(
     file: &[u8],
@@ -29,8 +51,7 @@ pub extern "C" fn hulgyevan_find(
     ensures records { records.new ≡ stored_in (mapped found_records (finding file.now (numbers_in positions.now) (length records.old))) records.old }
     ensures comparisons { comparisons.new ≡ value_or (mapped found_comparisons (finding file.now (numbers_in positions.now) (length records.old))) comparisons.old }
 {
-    let list = numbers_of::<LIST>(positions);
-    match find(file, &list) {
+    match find_words(file, positions) {
         Ok(found) => {
             if records.len() < found.records.len() {
                 return refusal_word(Refusal::NO_ROOM);

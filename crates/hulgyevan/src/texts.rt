@@ -23,7 +23,7 @@ pub extern "C" fn hulgyevan_legal_length(text: &[u8]) -> usize
 // The number that a text begins with, and the bytes used; refused with 8 where there is none, with 5 where its e is outside its limits.
 #[tactic(auto, unfolding(crate::specs::Outcomes::outcome, crate::specs::Outcomes::value_or, decimal::specs::Answer::mapped))]
 #[unsafe(no_mangle)]
-pub extern "C" fn hulgyevan_read_text(text: &[u8], number: &mut u64, used: &mut usize) -> u64
+pub extern "C" fn hulgyevan_read_text_number(text: &[u8], number: &mut u64, used: &mut usize) -> u64
     ensures word { result ≡ outcome (read_text text.now) }
     ensures number { number.new ≡ value_or (mapped read_word (read_text text.now)) number.old }
     ensures used { used.new ≡ value_or (mapped read_used (read_text text.now)) used.old }
@@ -63,7 +63,7 @@ fn stop_word(answer: Result<Stop, Refusal>) -> u64
 // The text numbers of a text from a place on, up to 16, their count, the place where reading stopped, and why, as a word: a number that
 // is refused with 5 has its index for its place. Refused with 6 alone.
 #[unsafe(no_mangle)]
-pub extern "C" fn hulgyevan_text_numbers(
+pub extern "C" fn hulgyevan_read_text_numbers(
     text: &[u8],
     from: usize,
     numbers: &mut [u64],

@@ -1,13 +1,12 @@
 // Words: a number as a word and back, lists of words, and answers as words.
 ghost use Rattle.std.specs.Prelude.{◌≡◌, ◌≤◌, take, length};
 ghost use Rattle.decimal.specs.Answer.{done, meaning, mapped, reason_number};
-ghost use Rattle.codec.specs.Lists.{max_columns};
 ghost use Rattle.codec.specs.Answers.{stored_in, sized, within};
 ghost use Rattle.hulgyevan.specs.Words.{number_in, fields_word, word_of, remainder_word, numbers_in, words_of, remainder_words};
 ghost use Rattle.hulgyevan.specs.Outcomes.{refusal_word, outcome, value_or};
 
 use arrayvec::ArrayVec;
-use codec::{COLUMNS, Numbers, Remainders};
+use codec::{MAX_COLUMNS, Numbers, Remainders};
 use decimal::{Number, Refusal, Remainder};
 
 // Mantissas that a word has room for are below this, and its exponent is counted in it.
@@ -23,7 +22,10 @@ const SIGN: u64 = 1 << 63;
 const PLACE_END: u64 = 1 << 56;
 
 // One number more than a contents has columns: a longer list is refused as its first so many numbers are.
-pub(crate) const LIST: usize = COLUMNS + 1;
+pub(crate) const NUMBERS: usize = MAX_COLUMNS + 1;
+
+// So many numbers or elements, or fewer, get a list of this size: a long list takes longer to make than the call.
+pub(crate) const FEW: usize = 4;
 
 // The number of a word, which need not be in normal form.
 #[tactic(auto, unfolding(crate::specs::Words::number_in))]
@@ -76,28 +78,24 @@ pub(crate) fn numbers_of<const N: usize>(words: &[u64]) -> ArrayVec<Number, N>
     numbers
 }
 
-// The words of numbers, of which there are no more than a body has.
-fn words_of(numbers: &[Number]) -> ArrayVec<u64, COLUMNS>
-    requires { length numbers.now ≤ max_columns }
-    ensures { result.items ≡ words_of numbers.now }
+// Writes the words of numbers, which are the whole target.
+fn write_words(numbers: &[Number], target: &mut [u64])
+    requires { length target.old ≡ length numbers.now }
+    ensures { target.new ≡ words_of numbers.now }
 {
-    let mut words = ArrayVec::new();
-    for number in numbers {
-        words.push(word_of(*number));
+    for (k, word) in target.iter_mut().enumerate() {
+        *word = word_of(numbers[k]);
     }
-    words
 }
 
-// The words of remainders, of which there are no more than a body has.
-fn remainder_words(remainders: &[Remainder]) -> ArrayVec<u64, COLUMNS>
-    requires { length remainders.now ≤ max_columns }
-    ensures { result.items ≡ remainder_words remainders.now }
+// Writes the words of remainders, which are the whole target.
+fn write_remainder_words(remainders: &[Remainder], target: &mut [u64])
+    requires { length target.old ≡ length remainders.now }
+    ensures { target.new ≡ remainder_words remainders.now }
 {
-    let mut words = ArrayVec::new();
-    for remainder in remainders {
-        words.push(remainder_word(*remainder));
+    for (k, word) in target.iter_mut().enumerate() {
+        *word = remainder_word(remainders[k]);
     }
-    words
 }
 
 // The word of a refusal: its number, and 256 times its place.
@@ -148,7 +146,7 @@ pub(crate) fn store_numbers(numbers: &Numbers, words: &mut [u64]) -> Result<usiz
     if words.len() < count {
         return Err(Refusal::NO_ROOM);
     }
-    words[..count].copy_from_slice(&words_of(numbers));
+    write_words(numbers, &mut words[..count]);
     Ok(count)
 }
 
@@ -159,7 +157,7 @@ pub(crate) fn store_remainders(remainders: &Remainders, words: &mut [u64])
 {
     let count = remainders.len();
     if count <= words.len() {
-        words[..count].copy_from_slice(&remainder_words(remainders));
+        write_remainder_words(remainders, &mut words[..count]);
     }
 }
 

@@ -1,4 +1,4 @@
--- `hulgyevan_text_numbers` meets its contract: the words of the numbers that were read are stored, or have no room. Assumes nothing.
+-- `hulgyevan_read_text_numbers` meets its contract: the words of the numbers that were read are stored, or have no room. Assumes nothing.
 use Rattle.std.proofs.Common.{length, ap, sym, ◌∙◌}
 use Rattle.decimal.specs.Answer.{Answer}
 use Rattle.codec.specs.Answers.{stored_in, sized}
@@ -6,7 +6,7 @@ use Rattle.codec.specs.Walking.{Walk}
 use Rattle.hulgyevan.specs.Texts.{stop_word}
 use Rattle.hulgyevan.proofs.OutcomeLaws.{sized_word, sized_value, sized_other, unsized_word, unsized_value, unsized_other}
 use Rattle.hulgyevan.proofs.CallLaws.{walk_stored}
-use Rattle.hulgyevan.proofs.texts.hulgyevan_text_numbers.Goals as goal
+use Rattle.hulgyevan.proofs.texts.hulgyevan_read_text_numbers.Goals as goal
 
 pub returns-in-Ok-clause-word : goal.returns-in-Ok-clause-word
 returns-in-Ok-clause-word c =
