@@ -3,7 +3,7 @@
 use crate::words::whole;
 use arrayvec::ArrayVec;
 use decimal::Number;
-use records::{ELEMENTS, Element, Reservation};
+use records::{Element, MAX_ELEMENTS, Reservation};
 
 // The bytes of an item.
 const ITEM: usize = 1 + 2 * WHOLE;
@@ -12,7 +12,7 @@ const ITEM: usize = 1 + 2 * WHOLE;
 const WHOLE: usize = 8;
 
 // The most items that are read of a list: one more than any call takes, so that a longer list is refused.
-const LISTED: usize = ELEMENTS + 1;
+const LISTED: usize = MAX_ELEMENTS + 1;
 
 // The element of an item. Its kind is a byte of the input, which is read only here: above 2 it is read as 0 is.
 fn element_of(item: &[u8; ITEM]) -> Element {

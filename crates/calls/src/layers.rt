@@ -1,7 +1,7 @@
 // The calls, a function for each: its arguments are a line's words as bytes, and it writes the answer and every byte of a lent buffer.
 ghost use Rattle.std.specs.Prelude.{◌≡◌};
 ghost use Rattle.decimal.specs.Answer.{meaning};
-ghost use Rattle.records.specs.Files.{added, new_length, written_behind};
+ghost use Rattle.records.specs.Files.RecordFile.{added, new_length, written_behind};
 
 use crate::items::{elements_in, number_in, numbers_in, reservation_in};
 use crate::shown::{
@@ -9,13 +9,34 @@ use crate::shown::{
     print_parts, print_places, print_remainder, print_remainders, print_written,
 };
 use crate::words::whole;
-use codec::Stop;
-use decimal::{Image, Number, Refusal, Sign, Truncation};
-use records::EntryRefusal;
-use rolls::POSITIONS;
+use codec::{Contents, Numbers, Packed, Stop};
+use decimal::{EXPONENT_LIMIT, Image, Number, Refusal, Sign};
+use records::{EntryRefusal, RecordFile};
+use rolls::MAX_POSITIONS;
 use std::cmp::Ordering;
 use std::io;
 use std::io::Write;
+use std::ops::Range;
+
+// Packs under the bytes of a contents.
+fn pack_alone(contents: &[u8], numbers: &[Number], buffer: &mut [u8]) -> Result<usize, Refusal> {
+    codec::pack(&Contents::read(contents)?, numbers, buffer)
+}
+
+// Packs under the bytes of a contents, and gives the remainders.
+fn cut_alone(contents: &[u8], numbers: &[Number], buffer: &mut [u8]) -> Result<Packed, Refusal> {
+    codec::pack_with_remainders(&Contents::read(contents)?, numbers, buffer)
+}
+
+// The numbers of a body under the bytes of a contents.
+fn unpack_alone(contents: &[u8], body: &[u8]) -> Result<Numbers, Refusal> {
+    Contents::read(contents)?.unpack(body)
+}
+
+// Where the body of a record stands in a file.
+fn place_in(file: &[u8], record: usize) -> Result<Range<usize>, Refusal> {
+    RecordFile::read(file)?.place(record)
+}
 
 // pack BUFFER CONTENTS NUMBERS
 pub(crate) fn pack(
@@ -24,19 +45,19 @@ pub(crate) fn pack(
     contents: &[u8],
     numbers: &[u8],
 ) -> io::Result<()> {
-    let answer = codec::pack(contents, &numbers_in(numbers), &mut *buffer);
+    let answer = pack_alone(contents, &numbers_in(numbers), &mut *buffer);
     print_written(out, answer, &*buffer)
 }
 
 // cutoff BUFFER CONTENTS NUMBERS: as pack, and what truncation cut off each number.
-// A match and no print_answer, as in unpack, numbers and find: a list or a place stands behind a refusal too.
+// A list stands behind a refusal too: of no items, as in unpack and find.
 pub(crate) fn cutoff(
     out: &mut impl Write,
     buffer: &mut [u8],
     contents: &[u8],
     numbers: &[u8],
 ) -> io::Result<()> {
-    match codec::pack_with_remainders(contents, &numbers_in(numbers), &mut *buffer) {
+    match cut_alone(contents, &numbers_in(numbers), &mut *buffer) {
         Err(refusal) => {
             print_written(out, Err(refusal), &*buffer)?;
             print_remainders(out, &[])
@@ -50,7 +71,7 @@ pub(crate) fn cutoff(
 
 // unpack CONTENTS BODY
 pub(crate) fn unpack(out: &mut impl Write, contents: &[u8], body: &[u8]) -> io::Result<()> {
-    match codec::unpack(contents, body) {
+    match unpack_alone(contents, body) {
         Err(refusal) => {
             write!(out, "{refusal}")?;
             print_numbers(out, &[])
@@ -69,7 +90,7 @@ pub(crate) fn alpha(
     image: &[u8],
     number: &[u8],
 ) -> io::Result<()> {
-    let answer = codec::write_alpha(image, number_in(number), &mut *buffer);
+    let answer = codec::alpha(image, number_in(number), &mut *buffer);
     print_written(out, answer, &*buffer)
 }
 
@@ -188,7 +209,7 @@ pub(crate) fn write(
 }
 
 // Adds a record by the two calls with nothing between them: it promises what add promises, word for word.
-#[tactic(auto, using(records::proofs::ReserveTheorem::first_refused, records::proofs::ReserveTheorem::first_nothing, records::proofs::ReserveTheorem::filled_next))]
+#[tactic(auto, using(records::proofs::FileProofs::ReserveTheorem::first_refused, records::proofs::FileProofs::ReserveTheorem::first_nothing, records::proofs::FileProofs::ReserveTheorem::filled_next))]
 fn add_in_two(used: usize, numbers: &[Number], buffer: &mut [u8]) -> Result<usize, Refusal>
     ensures answer { meaning result ≡ new_length used (added buffer.old used numbers.now) }
     ensures bytes { buffer.new ≡ written_behind used (added buffer.old used numbers.now) buffer.old }
@@ -208,13 +229,13 @@ pub(crate) fn both(
     print_added(out, answer, &*buffer)
 }
 
-// show FILE R: the place of the body, and the body.
+// show FILE R: the place of the body, and the body; no bytes behind a refusal.
 pub(crate) fn show<W: Write>(out: &mut W, file: &[u8], index: &[u8]) -> io::Result<()> {
     let record = whole(index);
-    print_answer(out, records::show(file, record), |out, body| {
+    print_answer(out, place_in(file, record), |out, body| {
         write!(out, " {} {}", body.start, body.len())
     })?;
-    print_bytes(out, records::shown_body(file, record))
+    print_bytes(out, records::show(file, record).unwrap_or(&[]))
 }
 
 // whole FILE: the whole length, and the count of bytes behind it.
@@ -239,7 +260,7 @@ pub(crate) fn report(out: &mut impl Write, buffer: &mut [u8], file: &[u8]) -> io
 
 // Writes record numbers: as many as a page can have, zeros behind the last one.
 fn print_records(out: &mut impl Write, records: &[usize]) -> io::Result<()> {
-    print_places(out, records, POSITIONS, print_count)
+    print_places(out, records, MAX_POSITIONS, print_count)
 }
 
 // find FILE POSITIONS: the count of comparisons, and the record numbers.
@@ -290,7 +311,13 @@ pub(crate) fn image(out: &mut impl Write, bytes: &[u8], place: &[u8]) -> io::Res
     print_answer(out, decimal::read_image(bytes, whole(place)), print_image)
 }
 
-// Writes a number's truncation and its parts, whether the number packs, and what is cut off.
+// Whether a number packs under an image.
+fn packs(image: Image, number: Number, place: usize) -> Result<(), Refusal> {
+    image.checked(place)?.fitting_packed(number, place)?;
+    Ok(())
+}
+
+// Writes a number's truncation and its parts, those of zero behind a refusal, whether the number packs, and what is cut off.
 fn print_truncation<W: Write>(
     out: &mut W,
     image: Image,
@@ -298,14 +325,12 @@ fn print_truncation<W: Write>(
     place: usize,
 ) -> io::Result<()> {
     print_answer(out, decimal::truncated(image, number, place), print_number)?;
-    let parts = decimal::truncate(image, number, place).unwrap_or(Truncation::ZERO);
-    print_parts(out, parts.negative, parts.halves, parts.x)?;
+    match decimal::cut_number(image, number, place) {
+        Ok(cut) => print_parts(out, cut.negative, cut.halves, cut.x)?,
+        Err(_) => print_parts(out, false, 0, EXPONENT_LIMIT)?,
+    }
     out.write_all(b" packing ")?;
-    print_answer(
-        out,
-        decimal::fit_packed(image, number, place),
-        |_, ()| Ok(()),
-    )?;
+    print_answer(out, packs(image, number, place), |_, ()| Ok(()))?;
     out.write_all(b" cut off ")?;
     print_answer(
         out,

@@ -1,5 +1,5 @@
 // Small writers to an output.
-use codec::COLUMNS;
+use codec::MAX_COLUMNS;
 use decimal::{EXPONENT_LIMIT, Number, Refusal, Remainder, SCALE};
 use std::io::Write;
 use std::{io, iter};
@@ -86,13 +86,13 @@ pub(crate) fn print_places<W: Write, T: Copy + Default, F: Fn(&mut W, T) -> io::
 // Writes a list of numbers: its count, and as many values as a list can have, zeros behind the last one.
 pub(crate) fn print_numbers(out: &mut impl Write, numbers: &[Number]) -> io::Result<()> {
     print_count(out, numbers.len())?;
-    print_places(out, numbers, COLUMNS, print_number)
+    print_places(out, numbers, MAX_COLUMNS, print_number)
 }
 
 // Writes a list of remainders: its count, and as many values as a list can have, zeros behind the last one.
 pub(crate) fn print_remainders(out: &mut impl Write, remainders: &[Remainder]) -> io::Result<()> {
     print_count(out, remainders.len())?;
-    print_places(out, remainders, COLUMNS, print_remainder)
+    print_places(out, remainders, MAX_COLUMNS, print_remainder)
 }
 
 // Writes the answer of a call that writes, what it wrote, and the whole buffer.

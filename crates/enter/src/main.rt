@@ -3,20 +3,20 @@
 // arguments that can't be read, output that can't be written. Only in the last case may a part of the file have been written.
 #![tactic(auto)]
 
-use codec::COLUMNS;
+use codec::MAX_COLUMNS;
 use decimal::{Reason, Refusal, read_image};
-use records::{EntryRefusal, FILE_LENGTH, REPORT_LENGTH};
+use records::{EntryRefusal, MAX_FILE, MAX_REPORT};
 use std::process::ExitCode;
 use std::{env, io};
 
 // One byte more than the longest text has, which is the longest listing, so that a longer one is seen.
-const INPUT_LENGTH: usize = REPORT_LENGTH + 1;
+const INPUT_LENGTH: usize = MAX_REPORT + 1;
 
 // The most bytes of an image that a contents can have.
 const IMAGE_LENGTH: usize = 255;
 
 // The most bytes of a contents.
-const CONTENTS_LENGTH: usize = 1 + COLUMNS * (1 + IMAGE_LENGTH);
+const CONTENTS_LENGTH: usize = 1 + MAX_COLUMNS * (1 + IMAGE_LENGTH);
 
 // Writes the column of an image behind those before it, and gives the contents' length with it; refused with 1 or 2 and the column.
 fn write_column(
@@ -45,7 +45,7 @@ fn write_images(
     contents: &mut [u8; CONTENTS_LENGTH],
 ) -> io::Result<Result<usize, Refusal>> {
     let count = env::args(rt)?.skip(1).count();
-    if !(1..=COLUMNS).contains(&count) {
+    if !(1..=MAX_COLUMNS).contains(&count) {
         return Ok(Err(Refusal::WRONG_COUNT));
     }
     let mut size = 1;
@@ -66,7 +66,7 @@ fn enter_short(
     text: &[u8],
     output: &mut [u8],
 ) -> Result<usize, EntryRefusal> {
-    if REPORT_LENGTH < text.len() {
+    if MAX_REPORT < text.len() {
         return Err(EntryRefusal::Call(Refusal::WRONG_LENGTH));
     }
     match made {
@@ -82,7 +82,7 @@ fn write_entered(
     contents: &[u8],
     text: &[u8],
 ) -> bool {
-    let mut output = [0u8; FILE_LENGTH];
+    let mut output = [0u8; MAX_FILE];
     match enter_short(made, contents, text, &mut output) {
         Ok(size) => console::write_output(rt, codec::written_part(Ok(size), &output)).is_ok(),
         Err(refusal) => {

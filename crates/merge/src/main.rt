@@ -4,19 +4,19 @@
 #![tactic(auto)]
 
 use decimal::Refusal;
-use records::FILE_LENGTH;
+use records::MAX_FILE;
 use std::process::ExitCode;
 use std::{env, io};
 
 // One byte more than a file may have, as the listing takes them, so that a longer one is seen.
-const INPUT_LENGTH: usize = FILE_LENGTH + 1;
+const INPUT_LENGTH: usize = MAX_FILE + 1;
 
 // Two files are no longer together.
-const OUTPUT_LENGTH: usize = 2 * FILE_LENGTH;
+const OUTPUT_LENGTH: usize = 2 * MAX_FILE;
 
 // Merges two files into a buffer: refused first with 11 where one is longer than a file may be.
 fn merge_short(first: &[u8], second: &[u8], output: &mut [u8]) -> Result<usize, Refusal> {
-    if FILE_LENGTH < first.len() || FILE_LENGTH < second.len() {
+    if MAX_FILE < first.len() || MAX_FILE < second.len() {
         return Err(Refusal::WRONG_LENGTH);
     }
     rolls::merge(first, second, output)

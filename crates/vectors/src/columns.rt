@@ -4,8 +4,8 @@ use crate::scaled::Scaled;
 use crate::shown::{
     ROOM, print_answer, print_hexadecimal, print_number, print_remainder, print_text, print_written,
 };
-use codec::{Numbers, written_part};
-use decimal::{Number, Remainder};
+use codec::{Contents, Numbers, Packed, written_part};
+use decimal::{Number, Refusal, Remainder};
 use std::io;
 use std::io::Write;
 
@@ -20,16 +20,31 @@ fn image_of(contents: &[u8]) -> &[u8] {
 // Writes the alpha text of a number under an image.
 fn print_alpha<W: Write>(out: &mut W, image: &[u8], number: Number) -> io::Result<()> {
     let mut buffer = [0u8; ROOM];
-    let answer = codec::write_alpha(image, number, &mut buffer);
+    let answer = codec::alpha(image, number, &mut buffer);
     print_answer(out, answer, |out, _| {
         print_text(out, written_part(answer, &buffer))
     })
 }
 
+// Packs a number under the bytes of a contents.
+fn pack_alone(contents: &[u8], number: Number, buffer: &mut [u8]) -> Result<usize, Refusal> {
+    codec::pack(&Contents::read(contents)?, &[number], buffer)
+}
+
+// Packs a number under the bytes of a contents, and gives the remainder.
+fn cut_alone(contents: &[u8], number: Number, buffer: &mut [u8]) -> Result<Packed, Refusal> {
+    codec::pack_with_remainders(&Contents::read(contents)?, &[number], buffer)
+}
+
+// The numbers of a body under the bytes of a contents.
+fn unpack_alone(contents: &[u8], body: &[u8]) -> Result<Numbers, Refusal> {
+    Contents::read(contents)?.unpack(body)
+}
+
 // Packs a number under a contents, and writes the body, or the refusal.
 fn print_packed(out: &mut impl Write, contents: &[u8], number: Number) -> io::Result<()> {
     let mut buffer = [0u8; ROOM];
-    let answer = codec::pack(contents, &[number], &mut buffer);
+    let answer = pack_alone(contents, number, &mut buffer);
     print_written(out, answer, &buffer)
 }
 
@@ -74,7 +89,7 @@ fn print_remainders(out: &mut impl Write, remainders: &[Remainder]) -> io::Resul
 // refusal too.
 fn print_cut(out: &mut impl Write, contents: &[u8], number: Number) -> io::Result<()> {
     let mut buffer = [0u8; ROOM];
-    match codec::pack_with_remainders(contents, &[number], &mut buffer) {
+    match cut_alone(contents, number, &mut buffer) {
         Err(refusal) => write!(out, "{refusal}; cut off none"),
         Ok(packed) => {
             out.write_all(b"body")?;
@@ -96,8 +111,8 @@ pub(crate) fn cut_row<W: Write>(out: &mut W, contents: &[u8], scaled: Scaled) ->
 pub(crate) fn size_row<W: Write>(out: &mut W, contents: &[u8]) -> io::Result<()> {
     out.write_all(image_of(contents))?;
     out.write_all(b": ")?;
-    print_answer(out, codec::read_alone(contents), |out, table| {
-        write!(out, "{} bytes", table.body)
+    print_answer(out, Contents::read(contents), |out, table| {
+        write!(out, "{} bytes", table.body_size())
     })?;
     out.write_all(b"\n")
 }
@@ -116,6 +131,6 @@ pub(crate) fn body_row(out: &mut impl Write, contents: &[u8], body: &[u8]) -> io
     out.write_all(b" body")?;
     print_hexadecimal(out, body)?;
     out.write_all(b": ")?;
-    print_answer(out, codec::unpack(contents, body), print_numbers)?;
+    print_answer(out, unpack_alone(contents, body), print_numbers)?;
     out.write_all(b"\n")
 }

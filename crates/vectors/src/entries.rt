@@ -1,6 +1,6 @@
 // Rows of texts that are entered as records, and of files that were cut short.
 use crate::shown::{ROOM, print_answer, print_hexadecimal, print_text, print_written};
-use records::Whole;
+use records::WholeLength;
 use std::io;
 use std::io::Write;
 
@@ -36,7 +36,7 @@ pub(crate) fn enter_row(
 }
 
 // Writes the length of what is whole of a file, and the count of bytes behind it.
-fn print_whole(out: &mut impl Write, whole: Whole) -> io::Result<()> {
+fn print_whole(out: &mut impl Write, whole: WholeLength) -> io::Result<()> {
     write!(out, "{} and {} behind", whole.length, whole.behind)
 }
 

@@ -2,7 +2,7 @@
 use crate::shown::{ROOM, print_answer, print_quoted, print_text};
 use arrayvec::ArrayVec;
 use codec::written_part;
-use records::{ELEMENTS, Element};
+use records::{Element, MAX_ELEMENTS};
 use std::io;
 use std::io::Write;
 
@@ -14,9 +14,9 @@ fn element_of(bytes: &[u8], start: usize) -> Element {
     }
 }
 
-// The elements of a list, which are parted by semicolons; past ELEMENTS the list is not read. The start of a part is counted, since a text
+// The elements of a list, which are parted by semicolons; past MAX_ELEMENTS the list is not read. The start of a part is counted, since a text
 // names its place in the list, which a part does not tell.
-fn elements_of(list: &[u8]) -> ArrayVec<Element, ELEMENTS> {
+fn elements_of(list: &[u8]) -> ArrayVec<Element, MAX_ELEMENTS> {
     let mut elements = ArrayVec::new();
     let mut start = 0;
     for part in list.split_inclusive(|&byte| byte == b';') {

@@ -4,15 +4,15 @@
 #![tactic(auto)]
 
 use decimal::Refusal;
-use records::{FILE_LENGTH, Whole};
+use records::{MAX_FILE, WholeLength};
 use std::io;
 
 // One byte more than a file may have, as the listing takes them, so that a longer one is seen.
-const INPUT_LENGTH: usize = FILE_LENGTH + 1;
+const INPUT_LENGTH: usize = MAX_FILE + 1;
 
 // The whole length of a file: refused first with 11 where it is longer than a file may be.
-fn whole_short(file: &[u8]) -> Result<Whole, Refusal> {
-    if FILE_LENGTH < file.len() {
+fn whole_short(file: &[u8]) -> Result<WholeLength, Refusal> {
+    if MAX_FILE < file.len() {
         return Err(Refusal::WRONG_LENGTH);
     }
     records::whole_length(file)

@@ -1,6 +1,6 @@
 -- A field ends inside what is left of the line.
 use Rattle.std.proofs.Common.{arith}
-use Rattle.records.proofs.CheckLaws.{field_inside}
+use Rattle.records.proofs.LineProofs.CheckLaws.{field_inside}
 use Rattle.vectors.proofs.lines.print_fields.Goals as goal
 
 pub split_at-requires : goal.split_at-requires
