@@ -38,13 +38,13 @@ extern "C" {
 /* ---- Limits ---- */
 
 /* The most columns of a contents, elements of a line and positions of a search. */
-#define HULGYEVAN_MOST_COLUMNS 16
-#define HULGYEVAN_MOST_ELEMENTS 64
-#define HULGYEVAN_MOST_POSITIONS 64
+#define HULGYEVAN_MAX_COLUMNS 16
+#define HULGYEVAN_MAX_ELEMENTS 64
+#define HULGYEVAN_MAX_POSITIONS 64
 
 /* The most bytes of a line, and of a body. */
-#define HULGYEVAN_LONGEST_LINE 4096
-#define HULGYEVAN_LONGEST_BODY 128
+#define HULGYEVAN_MAX_LINE 4096
+#define HULGYEVAN_MAX_BODY 128
 
 /* ---- Refusals ---- */
 
@@ -143,13 +143,13 @@ uint64_t hulgyevan_compare(uint64_t first, uint64_t second, uint64_t *order);
 
 /* Reads a contents that is lent alone: gives the count of its columns, and the size of a body in
  * bytes. Refused with 11, 10, (11, 1, 2), 11. */
-uint64_t hulgyevan_contents(const uint8_t *contents, size_t contents_length, size_t *columns,
-                            size_t *body);
+uint64_t hulgyevan_read_contents(const uint8_t *contents, size_t contents_length, size_t *columns,
+                                 size_t *body);
 
 /* Reads a record file, without its halves: gives the count of columns, the size of the contents and
  * of a body in bytes, and the count of records. Refused with 11, 10, (11, 1, 2), 11. */
-uint64_t hulgyevan_file(const uint8_t *file, size_t file_length, size_t *columns,
-                        size_t *contents_size, size_t *body, size_t *records);
+uint64_t hulgyevan_read_file(const uint8_t *file, size_t file_length, size_t *columns,
+                             size_t *contents_size, size_t *body, size_t *records);
 
 /* ---- Bodies ---- */
 
@@ -186,7 +186,8 @@ size_t hulgyevan_legal_length(const uint8_t *text, size_t length);
 
 /* Reads the longest beginning of a text that has the form of a text number: gives its number, and
  * how many bytes it has. Refused with 8, else with 5. */
-uint64_t hulgyevan_read_text(const uint8_t *text, size_t length, uint64_t *number, size_t *used);
+uint64_t hulgyevan_read_text_number(const uint8_t *text, size_t length, uint64_t *number,
+                                    size_t *used);
 
 /* Converts the whole of a text to a number. Refused with 8, else with 5. */
 uint64_t hulgyevan_convert(const uint8_t *text, size_t length, uint64_t *number);
@@ -196,8 +197,9 @@ uint64_t hulgyevan_convert(const uint8_t *text, size_t length, uint64_t *number)
  * where reading stopped, and why, as an answer word: 0 for the text's end, 8 where no text number
  * begins at the place, 10 where one does and 16 were read, 5 + 256 * index where the number with
  * that index has an exponent outside its limits. The call itself is refused with 6 alone. */
-uint64_t hulgyevan_text_numbers(const uint8_t *text, size_t length, size_t from, uint64_t *numbers,
-                                size_t room, size_t *count, size_t *place, uint64_t *stop);
+uint64_t hulgyevan_read_text_numbers(const uint8_t *text, size_t length, size_t from,
+                                     uint64_t *numbers, size_t room, size_t *count, size_t *place,
+                                     uint64_t *stop);
 
 /* ---- Print lines ---- */
 

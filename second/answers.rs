@@ -65,7 +65,7 @@ fn number_words(number: &Number) -> String {
 
 /// Writes a list of numbers: its count, and 16 values, zero behind the last.
 fn numbers_words(numbers: &[Number]) -> String {
-    let values = (0..model::MOST_COLUMNS).map(|column| number_words(numbers.get(column).unwrap_or(&Number::ZERO)));
+    let values = (0..model::MAX_COLUMNS).map(|column| number_words(numbers.get(column).unwrap_or(&Number::ZERO)));
     format!("{} {}", numbers.len(), values.collect::<Vec<_>>().join(" "))
 }
 
@@ -77,7 +77,7 @@ fn remainder_words(remainder: &Remainder) -> String {
 /// Writes a list of remainders: its count, and 16 values, those of zero behind the last.
 fn remainders_words(remainders: &[Remainder]) -> String {
     let zero = Remainder { r: 0, power: 0 };
-    let values = (0..model::MOST_COLUMNS).map(|column| remainder_words(remainders.get(column).unwrap_or(&zero)));
+    let values = (0..model::MAX_COLUMNS).map(|column| remainder_words(remainders.get(column).unwrap_or(&zero)));
     format!("{} {}", remainders.len(), values.collect::<Vec<_>>().join(" "))
 }
 
@@ -147,7 +147,7 @@ fn show(file: &[u8], index: &[u8]) -> String {
 fn find(file: &[u8], items: &[u8]) -> String {
     let result = model::find(file, &numbers(items));
     let mut records = result.clone().map(|found| found.records).unwrap_or_default();
-    records.resize(model::MOST_POSITIONS, 0);
+    records.resize(model::MAX_POSITIONS, 0);
     let words: String = records.iter().map(|record| format!(" {record}")).collect();
     answer(result, |found| found.comparisons.to_string()) + &words
 }

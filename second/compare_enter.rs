@@ -13,8 +13,8 @@ use std::io::Write;
 use std::os::unix::ffi::OsStringExt;
 use std::process::{Command, ExitCode, Stdio};
 
-const LONGEST_FILE: usize = 65_536;
-const LONGEST_TEXT: usize = 4 * LONGEST_FILE + 64;
+const MAX_FILE: usize = 65_536;
+const MAX_REPORT: usize = 4 * MAX_FILE + 64;
 
 /// What a run of a program leaves behind.
 #[derive(PartialEq, Eq)]
@@ -135,18 +135,18 @@ fn line_cases() -> Vec<Case> {
 
 /// Gives the cases of the longest texts, longer ones, and the longest files.
 fn length_cases() -> Vec<Case> {
-    let records = LONGEST_FILE - 3;
+    let records = MAX_FILE - 3;
     vec![
-        told("a text that is too long, and no image", &[], vec![b' '; LONGEST_TEXT + 1], "refused 11 0"),
-        told("a text that is far too long", &["X"], vec![b'\n'; 3 * LONGEST_TEXT], "refused 11 0"),
-        told("a longest text of blanks", &["#"], vec![b' '; LONGEST_TEXT], "line 1 refused 8 0"),
-        told("a longest text of digits", &["#"], vec![b'1'; LONGEST_TEXT], "line 1 refused 8 0"),
-        told("a longest text of empty lines", &["#"], vec![b'\n'; LONGEST_TEXT], "line 1 refused 10 0"),
-        told("a longest text of good lines", &["#"], b"5\n".repeat(LONGEST_TEXT / 2), "refused 6 0"),
+        told("a text that is too long, and no image", &[], vec![b' '; MAX_REPORT + 1], "refused 11 0"),
+        told("a text that is far too long", &["X"], vec![b'\n'; 3 * MAX_REPORT], "refused 11 0"),
+        told("a longest text of blanks", &["#"], vec![b' '; MAX_REPORT], "line 1 refused 8 0"),
+        told("a longest text of digits", &["#"], vec![b'1'; MAX_REPORT], "line 1 refused 8 0"),
+        told("a longest text of empty lines", &["#"], vec![b'\n'; MAX_REPORT], "line 1 refused 10 0"),
+        told("a longest text of good lines", &["#"], b"5\n".repeat(MAX_REPORT / 2), "refused 6 0"),
         told("a bad line behind too many good ones", &["#"], [&b"5\n".repeat(100_000)[..], b"x"].concat(), "line 100001 refused 8 0"),
         told("one record too many", &["#"], b"5\n".repeat(records + 1), "refused 6 0"),
         enters("a longest file", &["#"], b"5\n".repeat(records), &vec![0x50; records]),
-        enters("a record in a longest text", &["#"], [&vec![b' '; LONGEST_TEXT - 1][..], b"5"].concat(), b"\x50"),
+        enters("a record in a longest text", &["#"], [&vec![b' '; MAX_REPORT - 1][..], b"5"].concat(), b"\x50"),
         enters("a longest listing", &["+.#^^^^"], longest_listing(), &b"\x05\x00".repeat(32_763)),
     ]
 }

@@ -12,7 +12,7 @@ use std::os::unix::ffi::OsStringExt;
 use std::path::Path;
 use std::process::{Command, ExitCode};
 
-const LONGEST_FILE: usize = 65_536;
+const MAX_FILE: usize = 65_536;
 
 /// What a run of a program leaves behind.
 #[derive(PartialEq, Eq)]
@@ -113,8 +113,8 @@ fn argument_cases(folder: &str) -> Vec<Case> {
 /// Gives the cases of empty files, the longest files and longer ones.
 fn length_cases(folder: &str) -> Vec<Case> {
     let (good, empty) = (write(folder, "good.rec", &digits_file(5)), write(folder, "empty.rec", b""));
-    let longest = write(folder, "longest.rec", &digits_file(LONGEST_FILE));
-    let longer = write(folder, "longer.rec", &digits_file(LONGEST_FILE + 1));
+    let longest = write(folder, "longest.rec", &digits_file(MAX_FILE));
+    let longer = write(folder, "longer.rec", &digits_file(MAX_FILE + 1));
     let (none, gone) = (write(folder, "none.rec", &[0]), absent(folder));
     vec![
         told("an empty first file", &[&empty, &good], "refused 11 0"),
@@ -124,26 +124,26 @@ fn length_cases(folder: &str) -> Vec<Case> {
         told("a second file that is too long", &[&good, &longer], "refused 11 0"),
         told("a first file without columns, a second one that is too long", &[&none, &longer], "refused 11 0"),
         told("a first file without columns", &[&none, &longest], "refused 10 0"),
-        merges("a longest file and itself", &[&longest, &longest], digits_file(2 * LONGEST_FILE - 3)),
+        merges("a longest file and itself", &[&longest, &longest], digits_file(2 * MAX_FILE - 3)),
     ]
 }
 
 /// Gives the case of two longest files with both cameras' records on each first column.
 fn longest_case(folder: &str) -> Case {
     let contents = files::contents_of(&[b"##".to_vec(), b"#".to_vec()]).len();
-    let records = (LONGEST_FILE - contents) / 2;
+    let records = (MAX_FILE - contents) / 2;
     let (mut first, mut second) = ([100; 100], [200; 100]);
     first[99] += records - first.iter().sum::<usize>();
     second[0] += records - second.iter().sum::<usize>();
     let files = [camera_file(1, &first), camera_file(2, &second)];
-    assert!(files.iter().all(|file| file.len() == LONGEST_FILE), "files of the longest length");
+    assert!(files.iter().all(|file| file.len() == MAX_FILE), "files of the longest length");
     let mut merged = files[0][..contents].to_vec();
     for value in 0..100 {
         let counts = |counts: [usize; 100]| std::array::from_fn(|index| if index == value { counts[index] } else { 0 });
         merged.extend(&camera_file(1, &counts(first))[contents..]);
         merged.extend(&camera_file(2, &counts(second))[contents..]);
     }
-    assert_eq!(merged.len(), 2 * LONGEST_FILE - contents);
+    assert_eq!(merged.len(), 2 * MAX_FILE - contents);
     let names = [write(folder, "left.rec", &files[0]), write(folder, "right.rec", &files[1])];
     merges("two longest files", &[&names[0], &names[1]], merged)
 }

@@ -7,8 +7,8 @@ use model::Entered;
 use std::io::{Read, Write};
 use std::process::ExitCode;
 
-const LONGEST_FILE: usize = 65_536;
-const LONGEST_TEXT: usize = 4 * LONGEST_FILE + 64;
+const MAX_FILE: usize = 65_536;
+const MAX_REPORT: usize = 4 * MAX_FILE + 64;
 
 /// Gives the arguments, or the line that tells that one is not in UTF-8.
 fn arguments() -> Result<Vec<String>, Vec<u8>> {
@@ -19,13 +19,13 @@ fn arguments() -> Result<Vec<String>, Vec<u8>> {
 /// Reads standard input, one byte more than is allowed at most, or gives the line that tells that it can't be read.
 fn read_input() -> Result<Vec<u8>, Vec<u8>> {
     let mut text = Vec::new();
-    let read = std::io::stdin().take(LONGEST_TEXT as u64 + 1).read_to_end(&mut text);
+    let read = std::io::stdin().take(MAX_REPORT as u64 + 1).read_to_end(&mut text);
     read.map(|_| text).map_err(|_| b"reading standard input failed\n".to_vec())
 }
 
 /// Makes a contents of images: refused with 10 for their count, with 1 or 2 and the column for one that no contents can have.
 fn contents_of(images: &[String]) -> Result<Vec<u8>, model::Refusal> {
-    if images.is_empty() || images.len() > model::MOST_COLUMNS {
+    if images.is_empty() || images.len() > model::MAX_COLUMNS {
         return model::refuse(10, 0);
     }
     let mut contents = vec![images.len() as u8];
@@ -40,11 +40,11 @@ fn contents_of(images: &[String]) -> Result<Vec<u8>, model::Refusal> {
 
 /// Enters a text under images, with the program's own limits.
 fn entered(images: &[String], text: &[u8]) -> Entered {
-    if text.len() > LONGEST_TEXT {
+    if text.len() > MAX_REPORT {
         return Entered::Refused(model::Refusal { number: 11, place: 0 });
     }
     match contents_of(images) {
-        Ok(contents) => model::enter(&contents, text, LONGEST_FILE),
+        Ok(contents) => model::enter(&contents, text, MAX_FILE),
         Err(refusal) => Entered::Refused(refusal),
     }
 }

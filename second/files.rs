@@ -111,7 +111,7 @@ pub fn number(random: &mut Random, image: &Image) -> Number {
 pub fn file(random: &mut Random, images: &[Vec<u8>], records: usize) -> Vec<u8> {
     let contents = contents_of(images);
     let mut bytes = contents.clone();
-    if let Ok(read) = model::read_contents_alone(&contents) {
+    if let Ok(read) = model::read_contents(&contents) {
         for _ in 0..records {
             let numbers: Vec<Number> = read.iter().map(|image| number(random, image)).collect();
             bytes.extend(model::pack_list(&read, &numbers).unwrap_or_default());
@@ -129,7 +129,7 @@ pub fn images(random: &mut Random) -> Vec<Vec<u8>> {
 /// Gives how many records a file has: mostly few, at times as many as a file of 65,536 bytes holds, or some more.
 pub fn record_count(random: &mut Random, images: &[Vec<u8>]) -> usize {
     let contents = contents_of(images);
-    let body = model::read_contents_alone(&contents).map(|read| model::body_length(&read)).unwrap_or(1);
+    let body = model::read_contents(&contents).map(|read| model::body_length(&read)).unwrap_or(1);
     let most = (65_536 - contents.len()) / body;
     match random.below(40) {
         0 => most,

@@ -62,7 +62,7 @@ fn number_for(random: &mut Random, image: &model::Image) -> Number {
 
 /// Gives a list for a contents, at times one that does not pack under it.
 fn list_for(random: &mut Random, contents: &[u8]) -> Vec<Number> {
-    let images = model::read_contents(contents).map(|(images, _)| images).unwrap_or_default();
+    let images = model::read_contents_front(contents).map(|(images, _)| images).unwrap_or_default();
     let mut numbers: Vec<Number> = images.iter().map(|image| number_for(random, image)).collect();
     match random.below(20) {
         0 => numbers.push(Number::ZERO),
@@ -176,7 +176,7 @@ fn file(random: &mut Random) -> Vec<u8> {
 
 /// Gives the length of a body under the contents in front of a file; 3 if there is none.
 fn body_size(file: &[u8]) -> usize {
-    model::read_contents(file).map_or(3, |(images, _)| model::body_length(&images))
+    model::read_contents_front(file).map_or(3, |(images, _)| model::body_length(&images))
 }
 
 /// Gives a buffer with a file in front and any bytes behind it, and a used length: mostly the file's, at times one above the buffer's
@@ -342,7 +342,7 @@ fn two_numbers(random: &mut Random) -> Vec<Vec<u8>> {
 fn pack(random: &mut Random) -> Vec<Vec<u8>> {
     let contents = contents(random);
     let numbers = list_for(random, &contents);
-    let length = model::read_contents_alone(&contents).map_or(2, |images| model::body_length(&images));
+    let length = model::read_contents(&contents).map_or(2, |images| model::body_length(&images));
     vec![buffer_for(random, length), contents, items(&numbers)]
 }
 
@@ -391,7 +391,7 @@ fn file_in_order(random: &mut Random) -> Vec<u8> {
     }
     let images = pairs::images_in_order(random);
     let mut bytes = files::contents_of(&images);
-    let read = model::read_contents_alone(&bytes).unwrap_or_default();
+    let read = model::read_contents(&bytes).unwrap_or_default();
     let Some(first) = read.first() else { return bytes };
     let count = few_records(random);
     let mut keys: Vec<Number> = (0..count).map(|_| pairs::key(random, first)).collect();
@@ -486,7 +486,7 @@ fn enter(random: &mut Random) -> Vec<Vec<u8>> {
 /// Gives a short file: mostly cut off in its bodies, at times anywhere.
 fn cut_file(random: &mut Random) -> Vec<u8> {
     let mut bytes = short_file(random);
-    let front = bytes.len() - model::read_contents(&bytes).map_or(bytes.len(), |(_, bodies)| bodies.len());
+    let front = bytes.len() - model::read_contents_front(&bytes).map_or(bytes.len(), |(_, bodies)| bodies.len());
     match random.below(8) {
         0 => bytes.truncate(random.below(bytes.len() + 1)),
         1..=4 => bytes.truncate(front + random.below(bytes.len() - front + 1)),

@@ -7,12 +7,12 @@ use std::fs::File;
 use std::io::{Read, Write};
 use std::process::ExitCode;
 
-const LONGEST_FILE: usize = 65_536;
+const MAX_FILE: usize = 65_536;
 
 /// Reads a file, one byte more than is allowed at most.
 fn read_bytes(name: &str) -> std::io::Result<Vec<u8>> {
     let mut bytes = Vec::new();
-    File::open(name)?.take(LONGEST_FILE as u64 + 1).read_to_end(&mut bytes)?;
+    File::open(name)?.take(MAX_FILE as u64 + 1).read_to_end(&mut bytes)?;
     Ok(bytes)
 }
 
@@ -29,7 +29,7 @@ fn arguments() -> Result<Vec<String>, Vec<u8>> {
 
 /// Merges two files, with the program's own limit first.
 fn merged(first: &[u8], second: &[u8]) -> Result<Vec<u8>, model::Refusal> {
-    if first.len() > LONGEST_FILE || second.len() > LONGEST_FILE {
+    if first.len() > MAX_FILE || second.len() > MAX_FILE {
         return model::refuse(11, 0);
     }
     model::merge(first, second, usize::MAX)

@@ -66,11 +66,11 @@ pub struct Printed {
 
 pub const LOWEST_MANTISSA: u128 = 1_000_000_000_000;
 pub const HIGHEST_MANTISSA: u128 = 9_999_999_999_999;
-pub const MOST_DIGITS: usize = 13;
-pub const MOST_COLUMNS: usize = 16;
-pub const MOST_ELEMENTS: usize = 64;
-pub const LONGEST_LINE: usize = 4096;
-pub const MOST_POSITIONS: usize = 64;
+pub const PRECISION: usize = 13;
+pub const MAX_COLUMNS: usize = 16;
+pub const MAX_ELEMENTS: usize = 64;
+pub const MAX_LINE: usize = 4096;
+pub const MAX_POSITIONS: usize = 64;
 
 /// Makes a refused answer.
 pub fn refuse<T>(number: u8, place: usize) -> Result<T, Refusal> {
@@ -200,7 +200,7 @@ pub fn image_form(bytes: &[u8], commas: bool) -> Option<Image> {
 pub fn read_image(bytes: &[u8], place: usize) -> Result<Image, Refusal> {
     match image_form(bytes, false) {
         None => refuse(1, place),
-        Some(image) if image.n() > MOST_DIGITS => refuse(2, place),
+        Some(image) if image.n() > PRECISION => refuse(2, place),
         Some(image) => Ok(image),
     }
 }
@@ -231,7 +231,7 @@ fn truncate_fixed(image: &Image, number: &Number, place: usize) -> Result<Trunca
 
 /// Truncates a normal number under an exponential image, or refuses with 5.
 fn truncate_exponential(image: &Image, number: &Number, place: usize) -> Result<Truncated, Refusal> {
-    let kept = number.m / 10u128.pow((MOST_DIGITS - image.n()) as u32);
+    let kept = number.m / 10u128.pow((PRECISION - image.n()) as u32);
     let x = if number.m == 0 { 0 } else { number.e - image.whole as i128 + 1 };
     if !in_limits(x) {
         return refuse(5, place);
@@ -279,9 +279,9 @@ fn read_column(bytes: &[u8], column: usize) -> Result<(Image, &[u8]), Refusal> {
 }
 
 /// Reads the contents at the beginning of a file: its images, and the bytes behind it.
-pub fn read_contents(file: &[u8]) -> Result<(Vec<Image>, &[u8]), Refusal> {
+pub fn read_contents_front(file: &[u8]) -> Result<(Vec<Image>, &[u8]), Refusal> {
     let Some((&count, mut rest)) = file.split_first() else { return refuse(11, 0) };
-    if count == 0 || usize::from(count) > MOST_COLUMNS {
+    if count == 0 || usize::from(count) > MAX_COLUMNS {
         return refuse(10, 0);
     }
     let mut images = Vec::new();
@@ -294,8 +294,8 @@ pub fn read_contents(file: &[u8]) -> Result<(Vec<Image>, &[u8]), Refusal> {
 }
 
 /// Reads a contents that is lent alone: nothing may stand behind it.
-pub fn read_contents_alone(bytes: &[u8]) -> Result<Vec<Image>, Refusal> {
-    match read_contents(bytes)? {
+pub fn read_contents(bytes: &[u8]) -> Result<Vec<Image>, Refusal> {
+    match read_contents_front(bytes)? {
         (images, []) => Ok(images),
         _ => refuse(11, 0),
     }
@@ -356,14 +356,14 @@ pub fn pack_list(images: &[Image], numbers: &[Number]) -> Result<Vec<u8>, Refusa
 
 /// The call that packs a list under a contents into a buffer.
 pub fn pack(contents: &[u8], numbers: &[Number], room: usize) -> Result<Vec<u8>, Refusal> {
-    let images = read_contents_alone(contents)?;
+    let images = read_contents(contents)?;
     fit(pack_list(&images, numbers)?, room)
 }
 
 /// The call that packs a list under a contents into a buffer, and gives what truncation cut off each number.
 pub fn pack_with_remainders(contents: &[u8], numbers: &[Number], room: usize) -> Result<(Vec<u8>, Vec<Remainder>), Refusal> {
     let body = pack(contents, numbers, room)?;
-    let images = read_contents_alone(contents)?;
+    let images = read_contents(contents)?;
     let cut = |(image, number): (&Image, &Number)| Ok(remainder(image, number, &truncate(image, number, 0)?));
     Ok((body, images.iter().zip(numbers).map(cut).collect::<Result<_, _>>()?))
 }
@@ -403,7 +403,7 @@ pub fn unpack_body(images: &[Image], mut body: &[u8]) -> Result<Vec<Number>, Ref
 
 /// The call that reads back a body under a contents.
 pub fn unpack(contents: &[u8], body: &[u8]) -> Result<Vec<Number>, Refusal> {
-    let images = read_contents_alone(contents)?;
+    let images = read_contents(contents)?;
     if body.len() != body_length(&images) {
         return refuse(11, 0);
     }
@@ -485,7 +485,7 @@ pub fn text_form(text: &[u8]) -> Option<(bool, u128, i128)> {
     };
     let (before, after) = split_point(mantissa);
     let after = after.unwrap_or(&[]);
-    if !(1..=MOST_DIGITS).contains(&(before.len() + after.len())) {
+    if !(1..=PRECISION).contains(&(before.len() + after.len())) {
         return None;
     }
     let digits = plain_digits(&[before, after].concat())?;
@@ -533,7 +533,7 @@ pub enum Stop {
 
 /// The numbers read, and where and why reading stopped.
 #[derive(Clone, Debug, PartialEq, Eq)]
-pub struct Walked {
+pub struct TextNumbers {
     pub stop: Stop,
     pub place: usize,
     pub numbers: Vec<Number>,
@@ -545,7 +545,7 @@ pub fn next_number_place(text: &[u8], from: usize) -> usize {
 }
 
 /// Reads the text numbers that stand one behind the other from a place on, at most 16.
-pub fn read_text_numbers(text: &[u8], from: usize) -> Walked {
+pub fn read_text_numbers(text: &[u8], from: usize) -> TextNumbers {
     let (mut place, mut numbers) = (from, Vec::new());
     let stop = loop {
         let ahead = text.get(place..).unwrap_or(&[]);
@@ -553,7 +553,7 @@ pub fn read_text_numbers(text: &[u8], from: usize) -> Walked {
         match (ahead.is_empty(), used, numbers.len()) {
             (true, _, _) => break Stop::End,
             (_, 0, _) => break Stop::NoNumber,
-            (_, _, MOST_COLUMNS) => break Stop::TooMany,
+            (_, _, MAX_COLUMNS) => break Stop::TooMany,
             _ => {}
         }
         match convert(&ahead[..used]) {
@@ -562,7 +562,7 @@ pub fn read_text_numbers(text: &[u8], from: usize) -> Walked {
         }
         place += used;
     };
-    Walked { stop, place, numbers }
+    TextNumbers { stop, place, numbers }
 }
 
 // ---- Print lines ----
@@ -667,7 +667,7 @@ fn print_element(field: &Field, own: &[u8], element: &Element, texts: &[u8]) -> 
 
 /// Refuses with 10 too many elements or too long a line.
 fn check_sizes(line: usize, elements: usize) -> Result<(), Refusal> {
-    if elements > MOST_ELEMENTS || line > LONGEST_LINE { refuse(10, 0) } else { Ok(()) }
+    if elements > MAX_ELEMENTS || line > MAX_LINE { refuse(10, 0) } else { Ok(()) }
 }
 
 /// The forecast call: what a print call writes is at most this.
@@ -680,7 +680,7 @@ pub fn forecast(line: usize, elements: usize) -> Result<usize, Refusal> {
 fn check_print(line: &[u8], elements: &[Element], texts: &[u8]) -> Result<Vec<Field>, Refusal> {
     check_sizes(line.len(), elements.len())?;
     let fields = fields_of(line);
-    if let Some(place) = fields.iter().position(|field| field.image.n() > MOST_DIGITS) {
+    if let Some(place) = fields.iter().position(|field| field.image.n() > PRECISION) {
         return refuse(2, place);
     }
     if fields.is_empty() && !elements.is_empty() {
@@ -732,7 +732,7 @@ pub fn print(line: &[u8], elements: &[Element], texts: &[u8], room: usize) -> Re
 
 /// Reads a file as its images and its bodies, without reading the halves.
 pub fn read_file(file: &[u8]) -> Result<(Vec<Image>, Vec<&[u8]>), Refusal> {
-    let (images, rest) = read_contents(file)?;
+    let (images, rest) = read_contents_front(file)?;
     let length = body_length(&images);
     if rest.len() % length != 0 {
         return refuse(11, 0);
@@ -742,7 +742,7 @@ pub fn read_file(file: &[u8]) -> Result<(Vec<Image>, Vec<&[u8]>), Refusal> {
 
 /// The call that writes a contents lent alone into a buffer.
 pub fn write_contents(contents: &[u8], room: usize) -> Result<Vec<u8>, Refusal> {
-    read_contents_alone(contents)?;
+    read_contents(contents)?;
     fit(contents.to_vec(), room)
 }
 
@@ -811,7 +811,7 @@ pub fn refusal_line(refusal: Refusal) -> Vec<u8> {
 /// Gives a number's magnitude in units of 10^-111, as a row of 211 digits.
 fn units(number: &Number) -> Vec<u8> {
     let zeros = (number.e + 99) as usize;
-    let digits = [digits_of(number.m, MOST_DIGITS), vec![0; zeros]].concat();
+    let digits = [digits_of(number.m, PRECISION), vec![0; zeros]].concat();
     [vec![0; 211 - digits.len()], digits].concat()
 }
 
@@ -864,7 +864,7 @@ fn first_columns(images: &[Image], bodies: &[&[u8]]) -> Result<Vec<Number>, Refu
 /// Finds for each position the first record whose first column is at least the position, or the record count.
 pub fn find(file: &[u8], positions: &[Number]) -> Result<Found, Refusal> {
     let (images, bodies) = read_file(file)?;
-    if positions.len() > MOST_POSITIONS {
+    if positions.len() > MAX_POSITIONS {
         return refuse(10, 0);
     }
     let columns = first_columns(&images, &bodies)?;
@@ -950,7 +950,7 @@ pub fn reserve(buffer: &[u8], used: usize) -> Result<(usize, usize), Refusal> {
 /// afterwards. Any other place or size is refused with 18, right after the checks of the contents.
 pub fn write(buffer: &[u8], used: usize, place: usize, size: usize, numbers: &[Number]) -> Result<(usize, Vec<u8>), Refusal> {
     let file = used_part(buffer, used)?;
-    let (images, _) = read_contents(file)?;
+    let (images, _) = read_contents_front(file)?;
     if (place, size) != (used, body_length(&images)) {
         return refuse(18, 0);
     }
@@ -998,7 +998,7 @@ fn line_numbers(line: &[u8]) -> Result<Vec<Number>, Refusal> {
     let (mut rest, mut numbers) = (line, Vec::new());
     while !rest.is_empty() {
         let place = numbers.len();
-        if place == MOST_COLUMNS {
+        if place == MAX_COLUMNS {
             return refuse(10, 0);
         }
         // No bytes are no text number, which is refused with 8.
@@ -1037,7 +1037,7 @@ fn enter_lines(contents: &[u8], images: &[Image], lines: &[&[u8]]) -> Result<Vec
 
 /// The call that makes a record file of a text of lines, such as a listing, under a contents lent alone.
 pub fn enter(contents: &[u8], text: &[u8], room: usize) -> Entered {
-    let images = match read_contents_alone(contents) {
+    let images = match read_contents(contents) {
         Ok(images) => images,
         Err(refusal) => return Entered::Refused(refusal),
     };
@@ -1051,14 +1051,14 @@ pub fn enter(contents: &[u8], text: &[u8], room: usize) -> Entered {
 
 /// What there is of a file that may have been cut short: the longest length whose bodies are whole, and the count of bytes behind it.
 #[derive(Clone, Copy, Debug, PartialEq, Eq)]
-pub struct Whole {
+pub struct WholeLength {
     pub length: usize,
     pub behind: usize,
 }
 
 /// The call that gives the whole length of a file: it is refused as the contents at the file's front is, and never for its bodies.
-pub fn whole_length(file: &[u8]) -> Result<Whole, Refusal> {
-    let (images, rest) = read_contents(file)?;
+pub fn whole_length(file: &[u8]) -> Result<WholeLength, Refusal> {
+    let (images, rest) = read_contents_front(file)?;
     let behind = rest.len() % body_length(&images);
-    Ok(Whole { length: file.len() - behind, behind })
+    Ok(WholeLength { length: file.len() - behind, behind })
 }

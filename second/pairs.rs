@@ -144,7 +144,7 @@ pub fn next_pair(random: &mut Random, count: impl Fn(&mut Random, &[Vec<u8>]) ->
         images[0] = files::image(random);
     }
     let second_images = if random.below(8) == 0 { other_images(random, &images) } else { images.clone() };
-    let read = |images: &[Vec<u8>]| model::read_contents_alone(&files::contents_of(images));
+    let read = |images: &[Vec<u8>]| model::read_contents(&files::contents_of(images));
     let mut records = [Vec::new(), Vec::new()];
     if let Ok(read) = read(&images) {
         let count = count(random, &images);

@@ -166,7 +166,7 @@ fn good_lines(random: &mut Random, images: &[Vec<u8>], records: usize) -> Vec<Li
     let listing = model::listing(&file).unwrap_or_default();
     let mut lines: Vec<Line> = listing.split_inclusive(|&byte| byte == b'\n').map(|line| line[..line.len() - 1].to_vec()).collect();
     if random.below(3) == 0 {
-        let Ok(read) = model::read_contents_alone(&files::contents_of(images)) else { return lines };
+        let Ok(read) = model::read_contents(&files::contents_of(images)) else { return lines };
         let last = lines.len() - 1;
         for line in &mut lines[1..last] {
             let numbers: Vec<Number> = read.iter().map(|image| files::number(random, image)).collect();

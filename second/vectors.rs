@@ -78,7 +78,7 @@ fn cut_row(image: &str, whole: i64, scale: i128) -> String {
 
 /// Gives the row of an image's packed size.
 fn size_row(image: &str) -> String {
-    match model::read_contents_alone(&one_column(image)) {
+    match model::read_contents(&one_column(image)) {
         Ok(images) => format!("{image}: {} bytes\n", model::body_length(&images)),
         Err(refusal) => format!("{image}: {}\n", refusal_words(refusal)),
     }

@@ -63,12 +63,12 @@ static void bodies(void)
     uint8_t buffer[4] = {9, 9, 9, 9};
     size_t columns = 7, body = 7, size = 7, count = 7, contents = 7, records = 7;
 
-    CHECK(hulgyevan_contents(BYTES("\2\3###\2+#"), &columns, &body) == 0 && columns == 2 && body == 3);
-    CHECK(hulgyevan_contents(BYTES("\1\1X"), &columns, &body) == REFUSED(HULGYEVAN_NOT_AN_IMAGE, 0) && columns == 2);
-    CHECK(hulgyevan_contents(NULL, 0, &columns, &body) == REFUSED(HULGYEVAN_WRONG_LENGTH, 0));
-    CHECK(hulgyevan_file(BYTES("\2\3###\2+#\1\x20\0\1\x20\5"), &columns, &contents, &body, &records) == 0);
+    CHECK(hulgyevan_read_contents(BYTES("\2\3###\2+#"), &columns, &body) == 0 && columns == 2 && body == 3);
+    CHECK(hulgyevan_read_contents(BYTES("\1\1X"), &columns, &body) == REFUSED(HULGYEVAN_NOT_AN_IMAGE, 0) && columns == 2);
+    CHECK(hulgyevan_read_contents(NULL, 0, &columns, &body) == REFUSED(HULGYEVAN_WRONG_LENGTH, 0));
+    CHECK(hulgyevan_read_file(BYTES("\2\3###\2+#\1\x20\0\1\x20\5"), &columns, &contents, &body, &records) == 0);
     CHECK(columns == 2 && contents == 8 && body == 3 && records == 2);
-    CHECK(hulgyevan_file(BYTES("\2\3###\2+#\1"), &columns, &contents, &body, &records) == REFUSED(HULGYEVAN_WRONG_LENGTH, 0));
+    CHECK(hulgyevan_read_file(BYTES("\2\3###\2+#\1"), &columns, &contents, &body, &records) == REFUSED(HULGYEVAN_WRONG_LENGTH, 0));
     CHECK(hulgyevan_convert(BYTES("12.195"), &list[0]) == 0 && hulgyevan_convert(BYTES("-0.5"), &list[1]) == 0);
     CHECK(hulgyevan_pack(BYTES("\2\3###\2+#"), list, 2, buffer, 4, &size) == 0 && size == 3 && memcmp(buffer, "\1\x20\0\11", 4) == 0);
     CHECK(hulgyevan_pack(BYTES("\2\3###\2+#"), list, 2, buffer, 2, &size) == REFUSED(HULGYEVAN_NO_ROOM, 0));
@@ -88,33 +88,33 @@ static void bodies(void)
 static void limits(void)
 {
     static const char image[] = "+#############^^^^";
-    static uint8_t line[HULGYEVAN_LONGEST_LINE + 1], contents[1 + (HULGYEVAN_MOST_COLUMNS + 1) * sizeof image];
-    static hulgyevan_element elements[HULGYEVAN_MOST_ELEMENTS + 1];
-    uint64_t positions[HULGYEVAN_MOST_POSITIONS + 1];
-    size_t columns, body, records[HULGYEVAN_MOST_POSITIONS], comparisons, size, spilled;
+    static uint8_t line[HULGYEVAN_MAX_LINE + 1], contents[1 + (HULGYEVAN_MAX_COLUMNS + 1) * sizeof image];
+    static hulgyevan_element elements[HULGYEVAN_MAX_ELEMENTS + 1];
+    uint64_t positions[HULGYEVAN_MAX_POSITIONS + 1];
+    size_t columns, body, records[HULGYEVAN_MAX_POSITIONS], comparisons, size, spilled;
     const uint64_t wrong_count = REFUSED(HULGYEVAN_WRONG_COUNT, 0);
     size_t i;
 
-    for (i = 0; i <= HULGYEVAN_MOST_COLUMNS; i++) {
+    for (i = 0; i <= HULGYEVAN_MAX_COLUMNS; i++) {
         contents[1 + i * sizeof image] = sizeof image - 1;
         memcpy(contents + 2 + i * sizeof image, image, sizeof image - 1);
     }
-    contents[0] = HULGYEVAN_MOST_COLUMNS;
-    CHECK(hulgyevan_contents(contents, sizeof contents - sizeof image, &columns, &body) == 0);
-    CHECK(columns == HULGYEVAN_MOST_COLUMNS && body == HULGYEVAN_LONGEST_BODY);
-    contents[0] = HULGYEVAN_MOST_COLUMNS + 1;
-    CHECK(hulgyevan_contents(contents, sizeof contents, &columns, &body) == wrong_count);
-    for (i = 0; i <= HULGYEVAN_MOST_ELEMENTS; i++)
+    contents[0] = HULGYEVAN_MAX_COLUMNS;
+    CHECK(hulgyevan_read_contents(contents, sizeof contents - sizeof image, &columns, &body) == 0);
+    CHECK(columns == HULGYEVAN_MAX_COLUMNS && body == HULGYEVAN_MAX_BODY);
+    contents[0] = HULGYEVAN_MAX_COLUMNS + 1;
+    CHECK(hulgyevan_read_contents(contents, sizeof contents, &columns, &body) == wrong_count);
+    for (i = 0; i <= HULGYEVAN_MAX_ELEMENTS; i++)
         elements[i].number = HULGYEVAN_ZERO;
-    for (i = 0; i <= HULGYEVAN_MOST_POSITIONS; i++)
+    for (i = 0; i <= HULGYEVAN_MAX_POSITIONS; i++)
         positions[i] = HULGYEVAN_ZERO;
     memset(line, '#', sizeof line);
-    CHECK(hulgyevan_print(line, 1, elements, HULGYEVAN_MOST_ELEMENTS, NULL, 0, NULL, 0, &size, &spilled) == REFUSED(HULGYEVAN_NO_ROOM, 0));
-    CHECK(hulgyevan_print(line, 1, elements, HULGYEVAN_MOST_ELEMENTS + 1, NULL, 0, NULL, 0, &size, &spilled) == wrong_count);
-    CHECK(hulgyevan_print(line, HULGYEVAN_LONGEST_LINE, NULL, 0, NULL, 0, NULL, 0, &size, &spilled) == REFUSED(HULGYEVAN_TOO_MANY_DIGITS, 0));
-    CHECK(hulgyevan_print(line, HULGYEVAN_LONGEST_LINE + 1, NULL, 0, NULL, 0, NULL, 0, &size, &spilled) == wrong_count);
-    CHECK(hulgyevan_find(BYTES("\1\1#"), positions, HULGYEVAN_MOST_POSITIONS, records, HULGYEVAN_MOST_POSITIONS, &comparisons) == 0);
-    CHECK(hulgyevan_find(BYTES("\1\1#"), positions, HULGYEVAN_MOST_POSITIONS + 1, records, 0, &comparisons) == wrong_count);
+    CHECK(hulgyevan_print(line, 1, elements, HULGYEVAN_MAX_ELEMENTS, NULL, 0, NULL, 0, &size, &spilled) == REFUSED(HULGYEVAN_NO_ROOM, 0));
+    CHECK(hulgyevan_print(line, 1, elements, HULGYEVAN_MAX_ELEMENTS + 1, NULL, 0, NULL, 0, &size, &spilled) == wrong_count);
+    CHECK(hulgyevan_print(line, HULGYEVAN_MAX_LINE, NULL, 0, NULL, 0, NULL, 0, &size, &spilled) == REFUSED(HULGYEVAN_TOO_MANY_DIGITS, 0));
+    CHECK(hulgyevan_print(line, HULGYEVAN_MAX_LINE + 1, NULL, 0, NULL, 0, NULL, 0, &size, &spilled) == wrong_count);
+    CHECK(hulgyevan_find(BYTES("\1\1#"), positions, HULGYEVAN_MAX_POSITIONS, records, HULGYEVAN_MAX_POSITIONS, &comparisons) == 0);
+    CHECK(hulgyevan_find(BYTES("\1\1#"), positions, HULGYEVAN_MAX_POSITIONS + 1, records, 0, &comparisons) == wrong_count);
 }
 
 /* Texts: alpha text, legal length, reading, converting, all numbers of a text. */
@@ -128,16 +128,16 @@ static void texts(void)
     CHECK(hulgyevan_alpha(BYTES("-#.##^^^^"), number, buffer, 12, &size) == 0 && size == 9 && memcmp(buffer, " 1.21E+01...", 12) == 0);
     CHECK(hulgyevan_alpha(BYTES("#"), number, buffer, 12, &size) == REFUSED(HULGYEVAN_EXCEEDS, 0) && size == 9);
     CHECK(hulgyevan_legal_length(BYTES("+24.37#JK")) == 6 && hulgyevan_legal_length(NULL, 0) == 0);
-    CHECK(hulgyevan_read_text(BYTES("0012.5 torn"), &number, &used) == 0 && used == 7);
+    CHECK(hulgyevan_read_text_number(BYTES("0012.5 torn"), &number, &used) == 0 && used == 7);
     CHECK(hulgyevan_mantissa(number) == UINT64_C(1250000000000));
-    CHECK(hulgyevan_read_text(BYTES("torn"), &number, &used) == REFUSED(HULGYEVAN_NOT_TEXT, 0) && used == 7);
+    CHECK(hulgyevan_read_text_number(BYTES("torn"), &number, &used) == REFUSED(HULGYEVAN_NOT_TEXT, 0) && used == 7);
     CHECK(hulgyevan_convert(BYTES("0012.5 torn"), &number) == REFUSED(HULGYEVAN_NOT_TEXT, 0));
     CHECK(hulgyevan_convert(BYTES("12E99"), &number) == REFUSED(HULGYEVAN_EXPONENT_OUTSIDE, 0));
-    CHECK(hulgyevan_text_numbers(BYTES("x5 - 6 torn"), 1, list, 3, &count, &place, &stop) == 0 && count == 2 && place == 7);
+    CHECK(hulgyevan_read_text_numbers(BYTES("x5 - 6 torn"), 1, list, 3, &count, &place, &stop) == 0 && count == 2 && place == 7);
     CHECK(stop == HULGYEVAN_NOT_TEXT && list[0] == number_of(5) && hulgyevan_is_negative(list[1]) && list[2] == 7);
-    CHECK(hulgyevan_text_numbers(BYTES("5 12E99"), 0, list, 3, &count, &place, &stop) == 0 && count == 1 && place == 2);
+    CHECK(hulgyevan_read_text_numbers(BYTES("5 12E99"), 0, list, 3, &count, &place, &stop) == 0 && count == 1 && place == 2);
     CHECK(stop == REFUSED(HULGYEVAN_EXPONENT_OUTSIDE, 1));
-    CHECK(hulgyevan_text_numbers(BYTES("5 6"), 0, list, 1, &count, &place, &stop) == REFUSED(HULGYEVAN_NO_ROOM, 0) && count == 1);
+    CHECK(hulgyevan_read_text_numbers(BYTES("5 6"), 0, list, 1, &count, &place, &stop) == REFUSED(HULGYEVAN_NO_ROOM, 0) && count == 1);
     CHECK(hulgyevan_read_field(BYTES("  1,234.5"), &number) == 0 && hulgyevan_exponent(number) == 3);
     CHECK(hulgyevan_read_field(BYTES("##"), &number) == REFUSED(HULGYEVAN_NOT_TEXT, 0) && hulgyevan_exponent(number) == 3);
 }
@@ -196,7 +196,7 @@ static void no_bytes(void)
     uint64_t number = 7, stop = 7;
     size_t a = 7, b = 7, c = 7, d = 7;
 
-    CHECK(hulgyevan_contents(NULL, 0, &a, &b) == wrong_length && hulgyevan_file(NULL, 0, &a, &b, &c, &d) == wrong_length);
+    CHECK(hulgyevan_read_contents(NULL, 0, &a, &b) == wrong_length && hulgyevan_read_file(NULL, 0, &a, &b, &c, &d) == wrong_length);
     CHECK(hulgyevan_pack(NULL, 0, NULL, 0, NULL, 0, &a) == wrong_length && hulgyevan_unpack(NULL, 0, NULL, 0, NULL, 0, &a) == wrong_length);
     CHECK(hulgyevan_pack_with_remainders(NULL, 0, NULL, 0, NULL, 0, NULL, 0, &a) == wrong_length);
     CHECK(hulgyevan_pack(BYTES("\1\1#"), NULL, 0, NULL, 0, &a) == REFUSED(HULGYEVAN_WRONG_COUNT, 0));
@@ -206,7 +206,7 @@ static void no_bytes(void)
     CHECK(hulgyevan_alpha(NULL, 0, HULGYEVAN_ZERO, NULL, 0, &a) == REFUSED(HULGYEVAN_NOT_AN_IMAGE, 0));
     CHECK(hulgyevan_alpha(BYTES("#"), HULGYEVAN_ZERO, NULL, 0, &a) == REFUSED(HULGYEVAN_NO_ROOM, 0));
     CHECK(hulgyevan_legal_length(NULL, 0) == 0 && hulgyevan_scan(NULL, 0, 0) == 0);
-    CHECK(hulgyevan_read_text(NULL, 0, &number, &a) == REFUSED(HULGYEVAN_NOT_TEXT, 0));
+    CHECK(hulgyevan_read_text_number(NULL, 0, &number, &a) == REFUSED(HULGYEVAN_NOT_TEXT, 0));
     CHECK(hulgyevan_convert(NULL, 0, &number) == REFUSED(HULGYEVAN_NOT_TEXT, 0));
     CHECK(hulgyevan_read_field(NULL, 0, &number) == REFUSED(HULGYEVAN_NOT_TEXT, 0));
     CHECK(hulgyevan_write_contents(NULL, 0, NULL, 0, &a) == wrong_length && hulgyevan_add(0, NULL, 0, NULL, 0, &a) == wrong_length);
@@ -215,7 +215,7 @@ static void no_bytes(void)
     CHECK(hulgyevan_list(BYTES("\1\1#"), NULL, 0, &a) == REFUSED(HULGYEVAN_NO_ROOM, 0));
     CHECK(hulgyevan_find(NULL, 0, NULL, 0, NULL, 0, &a) == wrong_length && hulgyevan_merge(NULL, 0, NULL, 0, NULL, 0, &a) == wrong_length);
     CHECK(a == 7 && b == 7 && c == 7 && d == 7 && number == 7);
-    CHECK(hulgyevan_text_numbers(NULL, 0, 0, NULL, 0, &a, &b, &stop) == 0 && a == 0 && b == 0 && stop == 0);
+    CHECK(hulgyevan_read_text_numbers(NULL, 0, 0, NULL, 0, &a, &b, &stop) == 0 && a == 0 && b == 0 && stop == 0);
     CHECK(hulgyevan_print(NULL, 0, NULL, 0, NULL, 0, NULL, 0, &a, &b) == 0 && a == 0 && b == 0);
     CHECK(hulgyevan_find(BYTES("\1\1#"), NULL, 0, NULL, 0, &a) == 0 && a == 0);
     a = 7;

@@ -114,13 +114,13 @@ fn compare(call: &Call) -> Result<Vec<u64>, Refusal> {
 }
 
 /// Reads a contents.
-fn contents(call: &Call) -> Result<Vec<u64>, Refusal> {
-    let images = model::read_contents_alone(&call.first)?;
+fn read_contents(call: &Call) -> Result<Vec<u64>, Refusal> {
+    let images = model::read_contents(&call.first)?;
     Ok(vec![images.len() as u64, model::body_length(&images) as u64])
 }
 
 /// Reads a file.
-fn file(call: &Call) -> Result<Vec<u64>, Refusal> {
+fn read_file(call: &Call) -> Result<Vec<u64>, Refusal> {
     let (images, bodies) = model::read_file(&call.first)?;
     let body = model::body_length(&images);
     let front = call.first.len() - bodies.len() * body;
@@ -140,7 +140,7 @@ fn unpack(call: &Call) -> Result<Vec<u64>, Refusal> {
 }
 
 /// Reads the numbers of a text: their words, then the place and the word for why reading stopped.
-fn text_numbers(call: &Call) -> Result<(Vec<u64>, u64, u64), Refusal> {
+fn read_text_numbers(call: &Call) -> Result<(Vec<u64>, u64, u64), Refusal> {
     let walked = model::read_text_numbers(&call.first, call.size(0));
     let stop = match walked.stop {
         model::Stop::End => 0,
@@ -207,8 +207,8 @@ pub fn answer(call: &Call) -> Answer {
         Kind::FromParts => answer.give(from_parts(call)),
         Kind::FromSteps => answer.give(from_steps(call)),
         Kind::Compare => answer.give(compare(call)),
-        Kind::Contents => answer.give(contents(call)),
-        Kind::File => answer.give(file(call)),
+        Kind::ReadContents => answer.give(read_contents(call)),
+        Kind::ReadFile => answer.give(read_file(call)),
         Kind::Pack => answer.write(model::pack(first, &numbers(&call.numbers), room).map(alone)),
         Kind::PackWithRemainders => {
             let result = remainders(call);
@@ -226,10 +226,10 @@ pub fn answer(call: &Call) -> Answer {
         }
         Kind::Alpha => answer.write(model::alpha(first, &number(Number::from_word(call.value(0))), room).map(alone)),
         Kind::LegalLength => answer.give(Ok(vec![model::legal_length(first) as u64])),
-        Kind::ReadText => answer.give(model::read_text_number(first).map(|(number, used)| vec![word(&number), used as u64])),
+        Kind::ReadTextNumber => answer.give(model::read_text_number(first).map(|(number, used)| vec![word(&number), used as u64])),
         Kind::Convert => answer.give(model::convert(first).map(one)),
-        Kind::TextNumbers => {
-            let result = text_numbers(call);
+        Kind::ReadTextNumbers => {
+            let result = read_text_numbers(call);
             if let Ok((words, ..)) = &result {
                 answer.put_words(words);
             }

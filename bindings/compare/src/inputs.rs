@@ -98,7 +98,7 @@ fn number_for(random: &mut Random, image: &model::Image) -> Number {
 
 /// Gives a list for the contents at the front of a file: at times one that does not pack under it, as one of 15 to 18 numbers.
 fn list_for(random: &mut Random, file: &[u8]) -> Vec<Number> {
-    let images = model::read_contents(file).map(|(images, _)| images).unwrap_or_default();
+    let images = model::read_contents_front(file).map(|(images, _)| images).unwrap_or_default();
     let mut numbers: Vec<Number> = images.iter().map(|image| number_for(random, image)).collect();
     match random.below(20) {
         0 => numbers.push(Number::ZERO),
@@ -198,7 +198,7 @@ fn contents(random: &mut Random) -> Vec<u8> {
 
 /// Gives the size of a body under the contents in front of a file; 3 if there is none.
 fn body_size(file: &[u8]) -> usize {
-    model::read_contents(file).map_or(3, |(images, _)| model::body_length(&images))
+    model::read_contents_front(file).map_or(3, |(images, _)| model::body_length(&images))
 }
 
 /// Packs a list under a contents.
@@ -467,7 +467,7 @@ fn enter(random: &mut Random, call: &mut Call) {
 /// Gives a file that mostly is cut off in its bodies.
 fn cut_file(random: &mut Random) -> Vec<u8> {
     let mut bytes = file(random);
-    let behind = model::read_contents(&bytes).map_or(0, |(_, bodies)| bodies.len());
+    let behind = model::read_contents_front(&bytes).map_or(0, |(_, bodies)| bodies.len());
     if random.below(2) == 0 {
         bytes.truncate(bytes.len() - random.below(behind + 1));
     }
@@ -482,7 +482,7 @@ fn file_in_order(random: &mut Random) -> Vec<u8> {
     }
     let images = pairs::images_in_order(random);
     let mut bytes = files::contents_of(&images);
-    let read = model::read_contents_alone(&bytes).unwrap_or_default();
+    let read = model::read_contents(&bytes).unwrap_or_default();
     let Some(first) = read.first() else { return bytes };
     let mut keys: Vec<model::Number> = (0..record_count(random, 9)).map(|_| pairs::key(random, first)).collect();
     if random.below(8) > 0 {
@@ -551,13 +551,13 @@ pub fn next_call(random: &mut Random) -> Call {
         Kind::FromParts => from_parts(random, &mut call),
         Kind::FromSteps => from_steps(random, &mut call),
         Kind::Compare => compare(random, &mut call),
-        Kind::Contents => call.first = contents(random),
-        Kind::File => call.first = file(random),
+        Kind::ReadContents => call.first = contents(random),
+        Kind::ReadFile => call.first = file(random),
         Kind::Pack | Kind::PackWithRemainders => pack(random, &mut call),
         Kind::Unpack => unpack(random, &mut call),
         Kind::Alpha => alpha(random, &mut call),
-        Kind::LegalLength | Kind::ReadText | Kind::Convert => call.first = text(random),
-        Kind::TextNumbers => text_numbers(random, &mut call),
+        Kind::LegalLength | Kind::ReadTextNumber | Kind::Convert => call.first = text(random),
+        Kind::ReadTextNumbers => text_numbers(random, &mut call),
         Kind::Scan => {
             call.first = line(random);
             call.values = vec![place_in(random, call.first.len())];

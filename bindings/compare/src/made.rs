@@ -1,7 +1,7 @@
 //! Calls made of the library: through the crate `hulgyevan`'s types, and through its module `raw`, which shows what the out-pointers point to.
 
 use crate::call::{Answer, Call, Kind, UNTOUCHED};
-use hulgyevan::{raw, Element, Number, Refusal, Remainder, Reserved, Stop};
+use hulgyevan::{raw, Element, Number, Refusal, Remainder, Reservation, Stop};
 
 /// All that is lent to a call.
 pub struct Lent<'a> {
@@ -28,8 +28,8 @@ pub fn raw_word(call: &Call, lent: &mut Lent) -> u64 {
         Kind::FromParts => raw::from_parts(call.value(0) != 0, call.value(1), call.value(2) as i64, number),
         Kind::FromSteps => raw::from_steps(call.value(0) != 0, call.value(1), number),
         Kind::Compare => raw::compare(Number::from_word(call.value(0)), Number::from_word(call.value(1)), word),
-        Kind::Contents => raw::contents(first, size, size1),
-        Kind::File => raw::file(first, size, size1, size2, size3),
+        Kind::ReadContents => raw::read_contents(first, size, size1),
+        Kind::ReadFile => raw::read_file(first, size, size1, size2, size3),
         Kind::Pack => raw::pack(first, numbers, buffer, size),
         Kind::PackWithRemainders => raw::pack_with_remainders(first, numbers, buffer, cut, size),
         Kind::Unpack => raw::unpack(first, second, words, size),
@@ -38,9 +38,9 @@ pub fn raw_word(call: &Call, lent: &mut Lent) -> u64 {
             **size = raw::legal_length(first);
             0
         }
-        Kind::ReadText => raw::read_text(first, number, size),
+        Kind::ReadTextNumber => raw::read_text_number(first, number, size),
         Kind::Convert => raw::convert(first, number),
-        Kind::TextNumbers => raw::text_numbers(first, call.size(0), words, size, size1, word),
+        Kind::ReadTextNumbers => raw::read_text_numbers(first, call.size(0), words, size, size1, word),
         Kind::Scan => {
             **size = raw::scan(first, call.size(0));
             0
@@ -68,8 +68,8 @@ pub fn outs(kind: Kind, lent: &Lent) -> Vec<u64> {
     match kind {
         Kind::FromParts | Kind::FromSteps | Kind::Convert | Kind::ReadField => number,
         Kind::Compare => vec![*lent.word],
-        Kind::ReadText => [number, sizes(1)].concat(),
-        Kind::TextNumbers => [sizes(2), vec![*lent.word]].concat(),
+        Kind::ReadTextNumber => [number, sizes(1)].concat(),
+        Kind::ReadTextNumbers => [sizes(2), vec![*lent.word]].concat(),
         kind => sizes(crate::call::out_count(kind)),
     }
 }
@@ -163,18 +163,17 @@ fn typed(call: &Call, answer: &mut Answer) -> Result<Vec<u64>, Refusal> {
         Kind::FromParts => Number::from_parts(call.value(0) != 0, call.value(1), call.value(2) as i64).map(one),
         Kind::FromSteps => from_steps(call.value(0) != 0, call.value(1)).map(one),
         Kind::Compare => number(call, 0).compare(number(call, 1)).map(|order| vec![(order as i64 + 1) as u64]),
-        Kind::Contents => hulgyevan::contents(first).map(|found| [size(found.columns), size(found.body)].concat()),
-        Kind::File => {
-            hulgyevan::file(first).map(|found| [size(found.columns), size(found.contents), size(found.body), size(found.records)].concat())
-        }
+        Kind::ReadContents => hulgyevan::read_contents(first).map(|found| [size(found.columns), size(found.body)].concat()),
+        Kind::ReadFile => hulgyevan::read_file(first)
+            .map(|found| [size(found.columns), size(found.contents), size(found.body), size(found.records)].concat()),
         Kind::Pack => hulgyevan::pack(first, numbers, buffer).map(size),
         Kind::PackWithRemainders => hulgyevan::pack_with_remainders(first, numbers, buffer, &mut cut).map(size),
         Kind::Unpack => hulgyevan::unpack(first, second, &mut words).map(size),
         Kind::Alpha => hulgyevan::alpha(first, number(call, 0), buffer).map(size),
         Kind::LegalLength => Ok(size(hulgyevan::legal_length(first))),
-        Kind::ReadText => hulgyevan::read_text(first).map(|(number, used)| [one(number), size(used)].concat()),
+        Kind::ReadTextNumber => hulgyevan::read_text_number(first).map(|(number, used)| [one(number), size(used)].concat()),
         Kind::Convert => convert(first).map(one),
-        Kind::TextNumbers => hulgyevan::text_numbers(first, call.size(0), &mut words)
+        Kind::ReadTextNumbers => hulgyevan::read_text_numbers(first, call.size(0), &mut words)
             .map(|read| [size(read.count), size(read.place), vec![stop_word(read.stop)]].concat()),
         Kind::Scan => Ok(size(hulgyevan::scan(first, call.size(0)))),
         Kind::Print => {
@@ -184,10 +183,12 @@ fn typed(call: &Call, answer: &mut Answer) -> Result<Vec<u64>, Refusal> {
         Kind::ReadField => hulgyevan::read_field(first).map(one),
         Kind::WriteContents => hulgyevan::write_contents(first, buffer).map(size),
         Kind::Add => hulgyevan::add(call.size(0), numbers, buffer).map(size),
-        Kind::Reserve => hulgyevan::reserve(first, call.size(0)).map(|reserved| [size(reserved.start), size(reserved.size)].concat()),
+        Kind::Reserve => {
+            hulgyevan::reserve(first, call.size(0)).map(|reservation| [size(reservation.start), size(reservation.size)].concat())
+        }
         Kind::WriteReserved => {
-            let reserved = Reserved { start: call.size(1), size: call.size(2) };
-            hulgyevan::write_reserved(call.size(0), reserved, numbers, buffer).map(size)
+            let reservation = Reservation { start: call.size(1), size: call.size(2) };
+            hulgyevan::write_reserved(call.size(0), reservation, numbers, buffer).map(size)
         }
         Kind::Show => hulgyevan::show(first, call.size(0)).map(|place| [size(place.start), size(place.len())].concat()),
         Kind::List => hulgyevan::list(first, buffer).map(size),

@@ -54,7 +54,7 @@ const WRITING: &[Kind] = &[
     Kind::PackWithRemainders,
     Kind::Unpack,
     Kind::Alpha,
-    Kind::TextNumbers,
+    Kind::ReadTextNumbers,
     Kind::Print,
     Kind::WriteContents,
     Kind::Add,
@@ -75,8 +75,8 @@ const LIMITS: &[(Kind, &str)] = &[
     (Kind::Print, "64 elements"),
     (Kind::Print, "65 elements"),
     (Kind::Print, "a place above 255"),
-    (Kind::Contents, "16 columns"),
-    (Kind::Contents, "17 columns"),
+    (Kind::ReadContents, "16 columns"),
+    (Kind::ReadContents, "17 columns"),
     (Kind::Pack, "16 numbers"),
     (Kind::Pack, "17 numbers"),
     (Kind::Unpack, "16 numbers"),
@@ -84,10 +84,10 @@ const LIMITS: &[(Kind, &str)] = &[
     (Kind::Add, "17 numbers"),
     (Kind::Find, "64 positions"),
     (Kind::Find, "65 positions"),
-    (Kind::TextNumbers, "stop 0"),
-    (Kind::TextNumbers, "stop 5"),
-    (Kind::TextNumbers, "stop 8"),
-    (Kind::TextNumbers, "stop 10"),
+    (Kind::ReadTextNumbers, "stop 0"),
+    (Kind::ReadTextNumbers, "stop 5"),
+    (Kind::ReadTextNumbers, "stop 8"),
+    (Kind::ReadTextNumbers, "stop 10"),
     (Kind::Enter, "a line refused"),
     (Kind::Enter, "no line refused"),
 ];
@@ -107,7 +107,7 @@ fn demands(mode: &str) -> Vec<(Kind, String)> {
 /// Gives how much room a call has, and how much of it a call that is done fills.
 fn room_and_size(call: &Call, answer: &Answer) -> (usize, usize) {
     match call.kind {
-        Kind::Unpack | Kind::TextNumbers => (call.words.len(), answer.outs[0] as usize),
+        Kind::Unpack | Kind::ReadTextNumbers => (call.words.len(), answer.outs[0] as usize),
         Kind::Find => (call.places.len(), call.numbers.len()),
         _ => (call.buffer.len(), answer.outs[0] as usize),
     }
@@ -117,7 +117,7 @@ fn room_and_size(call: &Call, answer: &Answer) -> (usize, usize) {
 fn with_more_room(call: &Call) -> Call {
     let mut more = call.clone();
     match call.kind {
-        Kind::Unpack | Kind::TextNumbers => more.words.push(0),
+        Kind::Unpack | Kind::ReadTextNumbers => more.words.push(0),
         Kind::Find => more.places.push(0),
         _ => more.buffer.push(0),
     }
@@ -141,11 +141,11 @@ fn limit_tags(call: &Call, answer: &Answer) -> Vec<String> {
             let place = if answer.word / 256 > 255 { "a place above 255" } else { "a place below 256" };
             vec![format!("a line of {first} bytes"), format!("{} elements", call.elements.len()), place.to_string()]
         }
-        Kind::Contents => vec![format!("{} columns", call.first.first().unwrap_or(&0))],
+        Kind::ReadContents => vec![format!("{} columns", call.first.first().unwrap_or(&0))],
         Kind::Unpack => vec![format!("{} numbers", if answer.word == 0 { answer.outs[0] } else { 0 })],
         Kind::Pack | Kind::Add if answer.word == 0 || numbers > 16 => vec![format!("{numbers} numbers")],
         Kind::Find => vec![format!("{numbers} positions")],
-        Kind::TextNumbers if answer.word == 0 => vec![format!("stop {}", answer.outs[2] % 256)],
+        Kind::ReadTextNumbers if answer.word == 0 => vec![format!("stop {}", answer.outs[2] % 256)],
         Kind::Enter if answer.word > 0 => vec![if answer.outs[1] > 0 { "a line refused" } else { "no line refused" }.to_string()],
         _ => Vec::new(),
     }
@@ -205,7 +205,7 @@ fn uninitialised(call: &Call, wanted: &Answer) -> bool {
     if wanted.word == 0 && WRITING.contains(&call.kind) {
         let size = room_and_size(call, wanted).1;
         match call.kind {
-            Kind::Unpack | Kind::TextNumbers => words = size,
+            Kind::Unpack | Kind::ReadTextNumbers => words = size,
             Kind::Find => places = size,
             Kind::PackWithRemainders => (bytes, words) = (size, call.numbers.len()),
             _ => bytes = size,

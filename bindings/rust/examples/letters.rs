@@ -1,7 +1,7 @@
 //! Makes a record file of a page's letters, whose positions stand in a text with remarks, then finds two positions in it, prints them as lines,
 //! and shows what a refusal is like.
 
-use hulgyevan::{add, find, list, print, read_text, show, unpack, write_contents, Element, Number, Refusal};
+use hulgyevan::{add, find, list, print, read_text_number, show, unpack, write_contents, Element, Number, Refusal};
 
 /// Two columns: the position in steps and hundredths, and the code of the letter.
 const CONTENTS: &[u8] = b"\x02\x0b########.##\x03###";
@@ -11,7 +11,7 @@ const LINES: [&str; 5] = ["16777214 W", "16777216 e", "16777216.25 i", "16777217
 
 /// Adds the record of a scanner's line to a file: gives the new used length.
 fn add_line(line: &str, used: usize, file: &mut [u8]) -> Result<usize, Refusal> {
-    let (position, read) = read_text(line.as_bytes())?;
+    let (position, read) = read_text_number(line.as_bytes())?;
     let code = line.as_bytes().get(read).copied().unwrap_or(b' ');
     add(used, &[position, Number::from_steps(i64::from(code))?], file)
 }

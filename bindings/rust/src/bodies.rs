@@ -18,13 +18,13 @@ pub struct Contents {
 /// Refused with 11, 10, (11, 1, 2), 11.
 ///
 /// ```
-/// use hulgyevan::{contents, Contents};
-/// assert_eq!(contents(b"\x02\x03###\x02+#")?, Contents { columns: 2, body: 3 });
+/// use hulgyevan::{read_contents, Contents};
+/// assert_eq!(read_contents(b"\x02\x03###\x02+#")?, Contents { columns: 2, body: 3 });
 /// # Ok::<(), hulgyevan::Refusal>(())
 /// ```
-pub fn contents(contents: &[u8]) -> Result<Contents, Refusal> {
+pub fn read_contents(contents: &[u8]) -> Result<Contents, Refusal> {
     let (mut columns, mut body) = (0, 0);
-    let answer = raw::contents(contents, &mut columns, &mut body);
+    let answer = raw::read_contents(contents, &mut columns, &mut body);
     answered(answer, Contents { columns, body })
 }
 
@@ -51,7 +51,7 @@ pub fn pack(contents: &[u8], numbers: &[Number], buffer: &mut [u8]) -> Result<us
 ///
 /// ```
 /// use hulgyevan::{pack_with_remainders, Remainder};
-/// let (mut body, mut cut) = ([0; 3], [Remainder::NONE; 2]);
+/// let (mut body, mut cut) = ([0; 3], [Remainder::ZERO; 2]);
 /// let numbers = ["12.195".parse()?, "-0.5".parse()?];
 /// assert_eq!(pack_with_remainders(b"\x02\x03###\x02+#", &numbers, &mut body, &mut cut)?, 3);
 /// assert_eq!(cut[0].to_string(), "19500000000E-11");

@@ -2,12 +2,12 @@
 
 use crate::number::Number;
 use crate::raw;
-use crate::refusal::{answered, EnterRefusal, Refusal};
+use crate::refusal::{answered, EntryRefusal, Refusal};
 use std::ops::Range;
 
 /// What a record file is made of.
 #[derive(Clone, Copy, Debug, PartialEq, Eq, Hash)]
-pub struct File {
+pub struct RecordFile {
     /// The count of columns, 1 to 16.
     pub columns: usize,
     /// The size of the contents in bytes.
@@ -23,14 +23,14 @@ pub struct File {
 /// Refused with 11, 10, (11, 1, 2), 11.
 ///
 /// ```
-/// use hulgyevan::{file, File};
-/// assert_eq!(file(b"\x01\x02##\x05\x12")?, File { columns: 1, contents: 4, body: 1, records: 2 });
+/// use hulgyevan::{read_file, RecordFile};
+/// assert_eq!(read_file(b"\x01\x02##\x05\x12")?, RecordFile { columns: 1, contents: 4, body: 1, records: 2 });
 /// # Ok::<(), hulgyevan::Refusal>(())
 /// ```
-pub fn file(file: &[u8]) -> Result<File, Refusal> {
+pub fn read_file(file: &[u8]) -> Result<RecordFile, Refusal> {
     let (mut columns, mut contents, mut body, mut records) = (0, 0, 0, 0);
-    let answer = raw::file(file, &mut columns, &mut contents, &mut body, &mut records);
-    answered(answer, File { columns, contents, body, records })
+    let answer = raw::read_file(file, &mut columns, &mut contents, &mut body, &mut records);
+    answered(answer, RecordFile { columns, contents, body, records })
 }
 
 /// Writes a contents, lent alone, at the start of a buffer: gives the used length.
@@ -68,7 +68,7 @@ pub fn add(used: usize, numbers: &[Number], buffer: &mut [u8]) -> Result<usize, 
 
 /// Where a record is to be written: what [`reserve`] gives and [`write_reserved`] takes.
 #[derive(Clone, Copy, Debug, PartialEq, Eq, Hash)]
-pub struct Reserved {
+pub struct Reservation {
     /// Where the body will start, which is the used length.
     pub start: usize,
     /// How many bytes it fills.
@@ -80,14 +80,14 @@ pub struct Reserved {
 /// Refused with 11 for the used length, 11, 10, (11, 1, 2), 11 for the file.
 ///
 /// ```
-/// use hulgyevan::{reserve, Reserved};
-/// assert_eq!(reserve(b"\x01\x02##\x05", 5)?, Reserved { start: 5, size: 1 });
+/// use hulgyevan::{reserve, Reservation};
+/// assert_eq!(reserve(b"\x01\x02##\x05", 5)?, Reservation { start: 5, size: 1 });
 /// # Ok::<(), hulgyevan::Refusal>(())
 /// ```
-pub fn reserve(buffer: &[u8], used: usize) -> Result<Reserved, Refusal> {
+pub fn reserve(buffer: &[u8], used: usize) -> Result<Reservation, Refusal> {
     let (mut start, mut size) = (0, 0);
     let answer = raw::reserve(buffer, used, &mut start, &mut size);
-    answered(answer, Reserved { start, size })
+    answered(answer, Reservation { start, size })
 }
 
 /// Adds a record at the place that [`reserve`] gave: gives the new used length.
@@ -98,15 +98,15 @@ pub fn reserve(buffer: &[u8], used: usize) -> Result<Reserved, Refusal> {
 /// ```
 /// use hulgyevan::{reserve, write_reserved, Number, Reason};
 /// let mut buffer = *b"\x01\x02##\x05\xff\xff";
-/// let reserved = reserve(&buffer, 5)?;
+/// let reservation = reserve(&buffer, 5)?;
 /// let numbers = [Number::from_steps(12)?];
-/// assert_eq!(write_reserved(5, reserved, &numbers, &mut buffer)?, 6);
-/// assert_eq!(write_reserved(6, reserved, &numbers, &mut buffer).unwrap_err().reason, Reason::ReservationDiffers);
+/// assert_eq!(write_reserved(5, reservation, &numbers, &mut buffer)?, 6);
+/// assert_eq!(write_reserved(6, reservation, &numbers, &mut buffer).unwrap_err().reason, Reason::ReservationDiffers);
 /// # Ok::<(), hulgyevan::Refusal>(())
 /// ```
-pub fn write_reserved(used: usize, reserved: Reserved, numbers: &[Number], buffer: &mut [u8]) -> Result<usize, Refusal> {
+pub fn write_reserved(used: usize, reservation: Reservation, numbers: &[Number], buffer: &mut [u8]) -> Result<usize, Refusal> {
     let mut new_used = 0;
-    let answer = raw::write_reserved(used, reserved.start, reserved.size, numbers, buffer, &mut new_used);
+    let answer = raw::write_reserved(used, reservation.start, reservation.size, numbers, buffer, &mut new_used);
     answered(answer, new_used)
 }
 
@@ -152,17 +152,17 @@ pub fn list(file: &[u8], buffer: &mut [u8]) -> Result<usize, Refusal> {
 /// let size = enter(b"\x01\x02##", b"columns 1\n05\n12\nrecords 2\n", &mut buffer)?;
 /// assert_eq!(&buffer[..size], b"\x01\x02##\x05\x12");
 /// assert_eq!(enter(b"\x01\x02##", b"5\n100\n", &mut buffer).unwrap_err().line, Some(2));
-/// # Ok::<(), hulgyevan::EnterRefusal>(())
+/// # Ok::<(), hulgyevan::EntryRefusal>(())
 /// ```
-pub fn enter(contents: &[u8], text: &[u8], buffer: &mut [u8]) -> Result<usize, EnterRefusal> {
+pub fn enter(contents: &[u8], text: &[u8], buffer: &mut [u8]) -> Result<usize, EntryRefusal> {
     let (mut size, mut line) = (0, 0);
     let answer = raw::enter(contents, text, buffer, &mut size, &mut line);
-    answered(answer, size).map_err(|refusal| EnterRefusal { line: (line > 0).then_some(line), refusal })
+    answered(answer, size).map_err(|refusal| EntryRefusal { line: (line > 0).then_some(line), refusal })
 }
 
 /// How much of a file is whole.
 #[derive(Clone, Copy, Debug, PartialEq, Eq, Hash)]
-pub struct Whole {
+pub struct WholeLength {
     /// The longest used length whose bodies are whole.
     pub length: usize,
     /// The count of bytes behind it: those of a last body that was cut short.
@@ -174,14 +174,14 @@ pub struct Whole {
 /// Refused with 11, 10, (11, 1, 2) for the contents.
 ///
 /// ```
-/// use hulgyevan::{whole_length, Whole};
-/// assert_eq!(whole_length(b"\x01\x04####\x01\x02\x03")?, Whole { length: 8, behind: 1 });
+/// use hulgyevan::{whole_length, WholeLength};
+/// assert_eq!(whole_length(b"\x01\x04####\x01\x02\x03")?, WholeLength { length: 8, behind: 1 });
 /// # Ok::<(), hulgyevan::Refusal>(())
 /// ```
-pub fn whole_length(file: &[u8]) -> Result<Whole, Refusal> {
+pub fn whole_length(file: &[u8]) -> Result<WholeLength, Refusal> {
     let (mut length, mut behind) = (0, 0);
     let answer = raw::whole_length(file, &mut length, &mut behind);
-    answered(answer, Whole { length, behind })
+    answered(answer, WholeLength { length, behind })
 }
 
 /// Finds for each of up to 64 positions that do not fall the first record whose first column is at least the position, or the count of records

@@ -36,19 +36,19 @@
 #![deny(unsafe_code)]
 
 /// The most columns of a contents.
-pub const MOST_COLUMNS: usize = 16;
+pub const MAX_COLUMNS: usize = 16;
 
 /// The most elements of a line.
-pub const MOST_ELEMENTS: usize = 64;
+pub const MAX_ELEMENTS: usize = 64;
 
 /// The most positions of a search.
-pub const MOST_POSITIONS: usize = 64;
+pub const MAX_POSITIONS: usize = 64;
 
 /// The most bytes of a line.
-pub const LONGEST_LINE: usize = 4_096;
+pub const MAX_LINE: usize = 4_096;
 
 /// The most bytes of a body.
-pub const LONGEST_BODY: usize = 128;
+pub const MAX_BODY: usize = 128;
 
 mod bodies;
 mod files;
@@ -59,9 +59,12 @@ pub mod raw;
 mod refusal;
 mod texts;
 
-pub use bodies::{contents, pack, pack_with_remainders, unpack, Contents};
-pub use files::{add, enter, file, find, list, merge, reserve, show, whole_length, write_contents, write_reserved, File, Reserved, Whole};
+pub use bodies::{pack, pack_with_remainders, read_contents, unpack, Contents};
+pub use files::{
+    add, enter, find, list, merge, read_file, reserve, show, whole_length, write_contents, write_reserved, RecordFile, Reservation,
+    WholeLength,
+};
 pub use lines::{forecast, print, read_field, scan, Element, Printed};
 pub use number::{Number, Remainder};
-pub use refusal::{EnterRefusal, Reason, Refusal};
-pub use texts::{alpha, legal_length, read_text, text_numbers, Stop, TextNumbers};
+pub use refusal::{EntryRefusal, Reason, Refusal};
+pub use texts::{alpha, legal_length, read_text_number, read_text_numbers, Stop, TextNumbers};

@@ -241,7 +241,7 @@ impl TryFrom<i64> for Number {
 ///
 /// ```
 /// use hulgyevan::{pack_with_remainders, Remainder};
-/// let (mut body, mut cut) = ([0; 2], [Remainder::NONE]);
+/// let (mut body, mut cut) = ([0; 2], [Remainder::ZERO]);
 /// pack_with_remainders(b"\x01\x03###", &["12.195".parse()?], &mut body, &mut cut)?;
 /// assert_eq!((cut[0].whole(), cut[0].power()), (19_500_000_000, -11));
 /// # Ok::<(), hulgyevan::Refusal>(())
@@ -252,7 +252,7 @@ pub struct Remainder(u64);
 
 impl Remainder {
     /// The remainder of zero: r and the power are 0.
-    pub const NONE: Remainder = Remainder(111 << MANTISSA_BITS);
+    pub const ZERO: Remainder = Remainder(111 << MANTISSA_BITS);
 
     /// Gives the remainder of a word, which has r where a number's word has m, and the power plus 111 where that has e + 99.
     pub const fn from_word(word: u64) -> Remainder {
@@ -292,6 +292,6 @@ impl fmt::Debug for Remainder {
 impl Default for Remainder {
     /// The remainder of zero.
     fn default() -> Remainder {
-        Remainder::NONE
+        Remainder::ZERO
     }
 }

@@ -13,8 +13,8 @@ mod library {
         pub fn hulgyevan_from_parts(negative: bool, mantissa: u64, exponent: i64, number: *mut Number) -> u64;
         pub fn hulgyevan_from_steps(negative: bool, steps: u64, number: *mut Number) -> u64;
         pub fn hulgyevan_compare(first: Number, second: Number, order: *mut u64) -> u64;
-        pub fn hulgyevan_contents(contents: *const u8, contents_length: usize, columns: *mut usize, body: *mut usize) -> u64;
-        pub fn hulgyevan_file(
+        pub fn hulgyevan_read_contents(contents: *const u8, contents_length: usize, columns: *mut usize, body: *mut usize) -> u64;
+        pub fn hulgyevan_read_file(
             file: *const u8,
             file_length: usize,
             columns: *mut usize,
@@ -60,9 +60,9 @@ mod library {
             size: *mut usize,
         ) -> u64;
         pub fn hulgyevan_legal_length(text: *const u8, length: usize) -> usize;
-        pub fn hulgyevan_read_text(text: *const u8, length: usize, number: *mut Number, used: *mut usize) -> u64;
+        pub fn hulgyevan_read_text_number(text: *const u8, length: usize, number: *mut Number, used: *mut usize) -> u64;
         pub fn hulgyevan_convert(text: *const u8, length: usize, number: *mut Number) -> u64;
-        pub fn hulgyevan_text_numbers(
+        pub fn hulgyevan_read_text_numbers(
             text: *const u8,
             length: usize,
             from: usize,
@@ -154,15 +154,15 @@ pub fn compare(first: Number, second: Number, order: &mut u64) -> u64 {
 }
 
 /// Reads a contents that is lent alone.
-pub fn contents(contents: &[u8], columns: &mut usize, body: &mut usize) -> u64 {
+pub fn read_contents(contents: &[u8], columns: &mut usize, body: &mut usize) -> u64 {
     // SAFETY: the slice and the references are lent for the call, and what is written overlaps with nothing.
-    unsafe { library::hulgyevan_contents(contents.as_ptr(), contents.len(), columns, body) }
+    unsafe { library::hulgyevan_read_contents(contents.as_ptr(), contents.len(), columns, body) }
 }
 
 /// Reads a record file without its halves.
-pub fn file(file: &[u8], columns: &mut usize, contents_size: &mut usize, body: &mut usize, records: &mut usize) -> u64 {
+pub fn read_file(file: &[u8], columns: &mut usize, contents_size: &mut usize, body: &mut usize, records: &mut usize) -> u64 {
     // SAFETY: the slice and the references are lent for the call, and what is written overlaps with nothing.
-    unsafe { library::hulgyevan_file(file.as_ptr(), file.len(), columns, contents_size, body, records) }
+    unsafe { library::hulgyevan_read_file(file.as_ptr(), file.len(), columns, contents_size, body, records) }
 }
 
 /// Packs a list of numbers as a body.
@@ -210,9 +210,9 @@ pub fn legal_length(text: &[u8]) -> usize {
 }
 
 /// Reads the longest beginning of a text that is a text number.
-pub fn read_text(text: &[u8], number: &mut Number, used: &mut usize) -> u64 {
+pub fn read_text_number(text: &[u8], number: &mut Number, used: &mut usize) -> u64 {
     // SAFETY: the slice and the references are lent for the call, and what is written overlaps with nothing.
-    unsafe { library::hulgyevan_read_text(text.as_ptr(), text.len(), number, used) }
+    unsafe { library::hulgyevan_read_text_number(text.as_ptr(), text.len(), number, used) }
 }
 
 /// Converts the whole of a text.
@@ -222,10 +222,10 @@ pub fn convert(text: &[u8], number: &mut Number) -> u64 {
 }
 
 /// Reads the text numbers that stand one behind the other in a text.
-pub fn text_numbers(text: &[u8], from: usize, numbers: &mut [Number], count: &mut usize, place: &mut usize, stop: &mut u64) -> u64 {
+pub fn read_text_numbers(text: &[u8], from: usize, numbers: &mut [Number], count: &mut usize, place: &mut usize, stop: &mut u64) -> u64 {
     let (length, room) = (text.len(), numbers.len());
     // SAFETY: the slices and the references are lent for the call, and what is written overlaps with nothing.
-    unsafe { library::hulgyevan_text_numbers(text.as_ptr(), length, from, numbers.as_mut_ptr(), room, count, place, stop) }
+    unsafe { library::hulgyevan_read_text_numbers(text.as_ptr(), length, from, numbers.as_mut_ptr(), room, count, place, stop) }
 }
 
 /// Gives the length of the longest field that starts at a byte of a line. Never refused.

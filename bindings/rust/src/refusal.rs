@@ -130,8 +130,8 @@ impl fmt::Display for Reason {
 /// Its text is the line that the listing program prints.
 ///
 /// ```
-/// use hulgyevan::{contents, Reason, Refusal};
-/// let refusal = contents(b"\x02\x01#\x01X").unwrap_err();
+/// use hulgyevan::{read_contents, Reason, Refusal};
+/// let refusal = read_contents(b"\x02\x01#\x01X").unwrap_err();
 /// assert_eq!(refusal, Refusal { reason: Reason::NotAnImage, place: 1 });
 /// assert_eq!(refusal.to_string(), "refused 1 1");
 /// ```
@@ -185,14 +185,14 @@ impl Error for Refusal {}
 /// assert_eq!(refusal.to_string(), "line 2 refused 4 0");
 /// ```
 #[derive(Clone, Copy, Debug, PartialEq, Eq, Hash)]
-pub struct EnterRefusal {
+pub struct EntryRefusal {
     /// The number of the line that is refused, counted from 1.
     pub line: Option<usize>,
     /// What is wrong, and where.
     pub refusal: Refusal,
 }
 
-impl fmt::Display for EnterRefusal {
+impl fmt::Display for EntryRefusal {
     /// line and its number, where a line is refused, and the refusal.
     fn fmt(&self, f: &mut fmt::Formatter) -> fmt::Result {
         if let Some(line) = self.line {
@@ -202,7 +202,7 @@ impl fmt::Display for EnterRefusal {
     }
 }
 
-impl Error for EnterRefusal {}
+impl Error for EntryRefusal {}
 
 /// Gives a value where the answer word is 0, and otherwise the refusal in it. The numbers 1 to 18 are all that the library answers; another one
 /// would be a refusal too, with the last reason.

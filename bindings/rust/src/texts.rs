@@ -37,14 +37,14 @@ pub fn legal_length(text: &[u8]) -> usize {
 /// Refused with 8 where there is none, else with 5 where its exponent is outside its limits.
 ///
 /// ```
-/// use hulgyevan::{read_text, Reason};
-/// assert_eq!(read_text(b"0012.5 torn")?, ("12.5".parse()?, 7));
-/// assert_eq!(read_text(b"12E99 torn").unwrap_err().reason, Reason::ExponentOutside);
+/// use hulgyevan::{read_text_number, Reason};
+/// assert_eq!(read_text_number(b"0012.5 torn")?, ("12.5".parse()?, 7));
+/// assert_eq!(read_text_number(b"12E99 torn").unwrap_err().reason, Reason::ExponentOutside);
 /// # Ok::<(), hulgyevan::Refusal>(())
 /// ```
-pub fn read_text(text: &[u8]) -> Result<(Number, usize), Refusal> {
+pub fn read_text_number(text: &[u8]) -> Result<(Number, usize), Refusal> {
     let (mut number, mut used) = (Number::ZERO, 0);
-    let answer = raw::read_text(text, &mut number, &mut used);
+    let answer = raw::read_text_number(text, &mut number, &mut used);
     answered(answer, (number, used))
 }
 
@@ -89,15 +89,15 @@ pub struct TextNumbers {
 /// Refused with 6 alone, where `numbers` is shorter than what was read.
 ///
 /// ```
-/// use hulgyevan::{text_numbers, Number, Stop, TextNumbers};
+/// use hulgyevan::{read_text_numbers, Number, Stop, TextNumbers};
 /// let mut numbers = [Number::ZERO; 16];
-/// let read = text_numbers(b"12 - 15 torn", 0, &mut numbers)?;
+/// let read = read_text_numbers(b"12 - 15 torn", 0, &mut numbers)?;
 /// assert_eq!(read, TextNumbers { count: 2, place: 8, stop: Stop::NoNumber });
 /// assert_eq!(numbers[..2], [Number::from_steps(12)?, Number::from_steps(-15)?]);
 /// # Ok::<(), hulgyevan::Refusal>(())
 /// ```
-pub fn text_numbers(text: &[u8], from: usize, numbers: &mut [Number]) -> Result<TextNumbers, Refusal> {
+pub fn read_text_numbers(text: &[u8], from: usize, numbers: &mut [Number]) -> Result<TextNumbers, Refusal> {
     let (mut count, mut place, mut stop) = (0, 0, 0);
-    let answer = raw::text_numbers(text, from, numbers, &mut count, &mut place, &mut stop);
+    let answer = raw::read_text_numbers(text, from, numbers, &mut count, &mut place, &mut stop);
     answered(answer, TextNumbers { count, place, stop: Stop::of(stop) })
 }
