@@ -1,8 +1,9 @@
 -- Powers of ten.
 -- Assumes nothing.
-use Rattle.std.proofs.Common.{◌≡◌, ℕ, suc, ◌+◌, ◌*◌, ◌^◌, ◌<◌, ◌≤◌, get_or, ap, ◌∙◌, le-mul_of_pos_right, mul_left_comm, arith, pow-add}
+use Rattle.std.proofs.Common.{◌≡◌, ℕ, suc, ◌+◌, ◌-◌, ◌*◌, ◌^◌, ◌<◌, ◌≤◌, get_or, ap, ◌∙◌, le-mul_of_pos_right, mul_left_comm, arith, pow-add, le-ltb, lt-ltb}
 use native.Mathlib.Nat.{one-le-pow, pow-succ', pow-le-pow_right}
 use Rattle.decimal.specs.declared.powers.TheConstants.{POWERS}
+use Rattle.decimal.specs.Digits.{precision, power_of_ten}
 use Rattle.decimal.proofs.Table.{table_entry}
 
 -- a power of ten is not zero
@@ -32,3 +33,17 @@ times_power k n = le-mul_of_pos_right k (pow10_pos n)
 -- the table's power of an exponent is that power of ten
 pub power_listed : (e : ℕ) → e < 20 → get_or POWERS e 0 ≡ 10 ^ e
 power_listed e h = table_entry (λ (k : ℕ). 10 ^ k) 20 e h
+
+-- the power of an exponent below 20 is a power of ten
+pub power_small : (e : ℕ) → e < 20 → power_of_ten e ≡ 10 ^ e
+unfolding power_of_ten
+power_small e h = rw (lt-ltb e 20 h)
+
+-- so is that of the count of digits that are left of a mantissa's
+pub power_left : (count : ℕ) {r : ℕ} → r ≡ power_of_ten (precision - count) → r ≡ 10 ^ (precision - count)
+power_left count e = e ∙ power_small (precision - count) (omega arith)
+
+-- that of a larger one is 0
+pub power_large : (e : ℕ) → 20 ≤ e → power_of_ten e ≡ 0
+unfolding power_of_ten
+power_large e h = rw (le-ltb e 20 h)

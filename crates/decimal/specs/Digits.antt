@@ -7,6 +7,10 @@ use Rattle.decimal.specs.declared.digits.Taken.{Taken}
 abbrev pub precision : ℕ
 precision = 13
 
+-- ten to the power of e where a machine word of 64 bits holds that, which is so below 20; else 0
+unfoldable pub power_of_ten : ℕ → ℕ
+power_of_ten e = pick (nat_lt e 20) (10 ^ e) 0
+
 -- the last n decimal digits of k, the first digit first
 unfoldable pub digits_of : ℕ → ℕ → List ℕ
 digits_of zero k = []

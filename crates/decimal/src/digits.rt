@@ -26,7 +26,8 @@ fn subtract(taken: Taken, power: u64, times: u64) -> Taken
     let held = taken.held;
     let multiple = times * ((power << 4) - 1);
     let subtractions = taken.subtractions + 1;
-    if held < multiple {
+    let is_less = held < multiple;
+    if is_less {
         Taken { held, subtractions }
     } else {
         Taken {

@@ -1,6 +1,7 @@
 // Layer 1: decimal numbers and # images (document 01: Numbers, Images). An upper layer uses the names below and what they promise.
 #![tactic(auto)]
 
+mod any_power;
 mod comparison;
 mod cut;
 mod digits;
@@ -12,6 +13,7 @@ mod refusal;
 mod remainder;
 mod truncation;
 
+pub use any_power::power_of_ten;
 pub use comparison::compare;
 pub use cut::{Cut, Fitting};
 pub use digits::PRECISION;

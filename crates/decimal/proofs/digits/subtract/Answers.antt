@@ -45,15 +45,15 @@ overflow_mul-multiple c =
     let units = made c.args.times c.args.power (omega arith) (omega arith) in
     omega (arith, units)
 
-pub returns-then-held-multiple : goal.returns-then-held-multiple
-returns-then-held-multiple c =
+pub returns-then-is_less : goal.returns-then-is_less
+returns-then-is_less c =
     let a = c.args in
     let units = made a.times a.power (omega arith) (omega arith) in
     let split = div-add-mod a.taken.held 16 in
-    record { counted = refl; result = inr (omega (arith, units, c.if-held-multiple.true), refl) }
+    record { counted = refl; result = inr (omega (arith, units, c.if-is_less.true), refl) }
 
-pub returns-else-held-multiple : goal.returns-else-held-multiple
-returns-else-held-multiple c =
+pub returns-else-is_less : goal.returns-else-is_less
+returns-else-is_less c =
     let a = c.args in
     let units = made a.times a.power (omega arith) (omega arith) in
     record { counted = refl; result = inl (taken_off a.taken.held a.times a.power c.requires.digit units (omega arith)) }
