@@ -4,17 +4,18 @@ use mathlib.Core.Path.{◌≡◌, refl, ap, ap₂, sym, ◌∙◌}
 use mathlib.Core.List.{List, [], ◌∷◌, ◌++◌}
 use mathlib.Core.Bool.{Bool, true, false}
 use native.Mathlib.Omega.{arith}
-use native.Mathlib.Nat.{div-add-mod', suc-mul, zero-mul}
+use native.Mathlib.Nat.{div-add-mod', suc-mul, zero-mul, add-mul, mul-mod_left}
 use lib.Dec.{eqb}
-use lib.ListN.{length, take, drop, get_or, length-append}
-use lib.Seq.{take-length}
+use lib.ListN.{length, take, drop, get_or, length-append, length-drop}
+use lib.Seq.{take-length, take-take, drop-drop, length-take-le}
 use borrow.Author.Tests.{eq-eqb, ne_eqb, eqb-true, eqb-false}
 use Rattle.std.proofs.Math.Seq.{drop-append_seam}
-use Rattle.std.proofs.lemmas.List.{take-append-le}
+use Rattle.std.proofs.lemmas.List.{take-append-le, drop-take}
+use Rattle.std.proofs.Math.Nat.{mul-div_cancel}
 use Rattle.decimal.specs.declared.image.Image.{Image}
 use Rattle.decimal.specs.declared.number.Number.{Number}
 use Rattle.decimal.specs.Answer.{Answer, done, refused, ◌then◌, checked_only}
-use Rattle.decimal.proofs.AnswerLaws.{never_done}
+use Rattle.decimal.proofs.AnswerLaws.{never_done, then_next, then_refused}
 use Rattle.std.specs.declared.slice.ChunksExact.{ChunksExact}
 use Rattle.std.specs.Slice.Iter.{chunks_exact_size}
 use Rattle.codec.specs.Columns.{body_size}
@@ -173,3 +174,105 @@ module _ {ims : List Image} {bytes rest : List ℕ} (k : CheckingBodies ims byte
     -- and one that can't
     pub bodies_stop : {x y : ℕ} → checked_only (unpack_body ims body) ≡ refused x y → check_bodies ims bytes ≡ refused x y
     bodies_stop h = k.says ∙ ap (check_each ims) splits ∙ each_bad ims body (bodies ahead.others (body_size ims) behind) h
+
+-- Blocks of bodies.
+
+-- so many bodies in front, and so many behind them
+bodies_apart : (n m size : ℕ) (bytes : List ℕ) → bodies (n + m) size bytes ≡ bodies n size (take (n * size) bytes) ++ bodies m size (drop (n * size) bytes)
+unfolding bodies
+bodies_apart zero m size bytes =
+    let none : bytes ≡ drop (zero * size) bytes = ap (λ (k : ℕ). drop k bytes) (sym (zero-mul size)) in
+    let many : zero + m ≡ m = omega arith in
+    ap (λ (k : ℕ). bodies k size bytes) many ∙ ap (bodies m size) none
+bodies_apart (suc n) m size bytes =
+    let long : size + n * size ≡ suc n * size = omega (arith, suc-mul n size) in
+    let front : take size bytes ≡ take size (take (suc n * size) bytes) = sym (take-take size (suc n * size) bytes (omega (arith, long))) in
+    let others : take (n * size) (drop size bytes) ≡ drop size (take (suc n * size) bytes) =
+    sym (drop-take size (n * size) bytes) ∙ ap (λ (k : ℕ). drop size (take k bytes)) long in
+    let behind : drop (n * size) (drop size bytes) ≡ drop (suc n * size) bytes = drop-drop (n * size) size bytes ∙ ap (λ (k : ℕ). drop k bytes) long in
+    let many : suc n + m ≡ suc (n + m) = omega arith in
+    ap (λ (k : ℕ). bodies k size bytes) many
+    ∙ ap (λ (bs : List (List ℕ)). take size bytes ∷ bs) (bodies_apart n m size (drop size bytes))
+    ∙ ap (λ (b : List ℕ). b ∷ (bodies n size (take (n * size) (drop size bytes)) ++ bodies m size (drop (n * size) (drop size bytes)))) front
+    ∙ ap₂ (λ (x y : List ℕ). take size (take (suc n * size) bytes) ∷ (bodies n size x ++ bodies m size y)) others behind
+
+-- bodies are checked, then those behind them
+each_apart : (ims : List Image) (bs others : List (List ℕ)) → check_each ims (bs ++ others) ≡ (check_each ims bs then λ t. check_each ims others)
+unfolding check_each ◌then◌
+each_apart ims [] others = refl
+each_apart ims (b ∷ bs) others = go (unpack_body ims b) (each_apart ims bs others)
+  where
+    go :
+        (a : Answer (List Number))
+        → check_each ims (bs ++ others) ≡ (check_each ims bs then λ t. check_each ims others)
+        → (a then λ ns. check_each ims (bs ++ others)) ≡ ((a then λ ns. check_each ims bs) then λ t. check_each ims others)
+    go (done ns) h = h
+    go (refused x y) h = refl
+
+module _ (ims : List Image) (n : ℕ) (block : List ℕ) (sized : length block ≡ n * body_size ims) where
+  -- so many bodies are whole
+  block_whole : length block % body_size ims ≡ 0
+  block_whole = ap (λ (k : ℕ). k % body_size ims) sized ∙ mul-mod_left n (body_size ims)
+
+  -- and each of them is checked
+  block_each : 0 < body_size ims → check_bodies ims block ≡ check_each ims (bodies n (body_size ims) block)
+  block_each some =
+      bodies_whole ims block block_whole
+      ∙ ap (λ (k : ℕ). check_each ims (bodies k (body_size ims) block)) (ap (λ (k : ℕ). k / body_size ims) sized ∙ mul-div_cancel n some)
+
+-- What a walk over blocks has: so many bodies are left, and whether they can be read says whether all can.
+pub record CheckingBlocks (ims : List Image) (bytes rest : List ℕ) (count : ℕ) : Type 0 where
+  pub reaches : length rest ≡ count * body_size ims
+  pub inside : length rest ≤ length bytes
+  pub says : check_bodies ims bytes ≡ check_each ims (bodies count (body_size ims) rest)
+
+-- before the first
+pub blocks_start : (ims : List Image) (bytes : List ℕ) → length bytes % body_size ims ≡ 0 → CheckingBlocks ims bytes bytes (length bytes / body_size ims)
+blocks_start ims bytes whole =
+    record { reaches = omega (arith, div-add-mod' (length bytes) (body_size ims)); inside = omega arith; says = bodies_whole ims bytes whole }
+
+-- behind the last
+pub blocks_end : {ims : List Image} {bytes rest : List ℕ} {count : ℕ} → CheckingBlocks ims bytes rest count → count ≡ 0 → check_bodies ims bytes ≡ done tt
+unfolding bodies check_each
+blocks_end {ims} {bytes} {rest} k none = k.says ∙ ap (λ (n : ℕ). check_each ims (bodies n (body_size ims) rest)) none
+
+module _ {ims : List Image} {bytes rest : List ℕ} {count : ℕ} (k : CheckingBlocks ims bytes rest count) (taken others : ℕ) (parts : taken + others ≡ count)
+    {n : ℕ} (long : n ≡ taken * body_size ims) where
+  parted : length rest ≡ n + others * body_size ims
+  parted = k.reaches ∙ ap (λ (m : ℕ). m * body_size ims) (sym parts) ∙ add-mul taken others (body_size ims) ∙ omega (arith, long)
+
+  -- the bytes of so many bodies are there
+  pub block_within : n ≤ length rest
+  block_within = omega (arith, parted)
+
+  module _ {block : List ℕ} (front : block ≡ take n rest) where
+    sized : length block ≡ taken * body_size ims
+    sized = ap length front ∙ length-take-le n rest block_within ∙ long
+
+    -- and they are whole
+    pub block_asked : length block % body_size ims ≡ 0
+    block_asked = block_whole ims taken block sized
+
+    module _ {behind : List ℕ} (back : behind ≡ drop n rest) (some : 0 < body_size ims) where
+      block_first : check_bodies ims bytes ≡ (check_bodies ims block then λ t. check_each ims (bodies others (body_size ims) behind))
+      block_first =
+          k.says
+          ∙ ap (λ (m : ℕ). check_each ims (bodies m (body_size ims) rest)) (sym parts)
+          ∙ ap (check_each ims) (bodies_apart taken others (body_size ims) rest)
+          ∙ ap (λ (m : ℕ). check_each ims (bodies taken (body_size ims) (take m rest) ++ bodies others (body_size ims) (drop m rest))) (sym long)
+          ∙ ap₂ (λ (x y : List ℕ). check_each ims (bodies taken (body_size ims) x ++ bodies others (body_size ims) y)) (sym front) (sym back)
+          ∙ each_apart ims (bodies taken (body_size ims) block) (bodies others (body_size ims) behind)
+          ∙ ap (λ (a : Answer (Unit {0})). a then λ t. check_each ims (bodies others (body_size ims) behind)) (sym (block_each ims taken block sized some))
+
+      -- a block whose bodies can be read
+      pub blocks_turn : check_bodies ims block ≡ done tt → CheckingBlocks ims bytes behind others
+      blocks_turn h =
+          record {
+            reaches = omega (arith, ap length back, length-drop n rest, parted);
+            inside = omega (arith, ap length back, length-drop n rest, k.inside);
+            says = block_first ∙ then_next (λ t. check_each ims (bodies others (body_size ims) behind)) h;
+          }
+
+      -- and one with a body that can't
+      pub blocks_stop : {x y : ℕ} → check_bodies ims block ≡ refused x y → check_bodies ims bytes ≡ refused x y
+      blocks_stop h = block_first ∙ then_refused (λ t. check_each ims (bodies others (body_size ims) behind)) h

@@ -1,5 +1,6 @@
 -- The laws of layer 2, from the lowest up.
 pub mod ListLaws
+pub mod PlaceLaws
 pub mod BufferLaws
 pub mod ComingLaws
 pub mod WrittenTheorem

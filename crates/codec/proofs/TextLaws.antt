@@ -10,7 +10,7 @@ use Rattle.std.proofs.lemmas.List.{get_or-drop, get_or-take, length-take, take_r
 use native.Mathlib.Nat.{mul_comm, mul_assoc, add-mul, mul-le-mul_right}
 use native.Mathlib.Numerals.{add-one}
 use native.Mathlib.Omega.{arith}
-use borrow.Author.Tests.{ltb-true, leb-true, eq-eqb, ne_eqb}
+use borrow.Author.Tests.{ltb-true, ltb-false, lt-ltb, leb-true, eq-eqb, ne_eqb}
 use lib.Dec.{ltb, leb, eqb, leb-suc-suc}
 use lib.ListN.{length, take, drop, get_or, length-append, length-drop}
 use lib.Seq.{drop-cons}
@@ -597,6 +597,66 @@ module _ (bytes : List ℕ) {value count whole places points : ℕ} (integer : R
         spanned = omega (arith, numeral_length (numeral_in bytes), integer.counted, fraction.spanned, power.spanned);
       }
 
+-- Whether a numeral has a digit.
+
+-- bytes begin with digits where the first is one
+pub first_digit : (bytes : List ℕ) → 0 < length bytes → is_ascii_digit (get_or bytes 0 0) ≡ ltb 0 (length (digits_in precision bytes))
+unfolding digits_in
+first_digit [] h = absurd (omega arith)
+first_digit (b ∷ bs) h = ascii_digit b ∙ go (is_digit b)
+  where
+    go : (test : Bool) → test ≡ ltb 0 (length (pick test ((b - zero_byte) ∷ digits_in 12 bs) []))
+    go true = sym (lt-ltb 0 (suc (length (digits_in 12 bs))) (omega arith))
+    go false = refl
+
+-- where no byte stands they begin with none
+pub first_absent : (bytes : List ℕ) → length bytes < 1 → false ≡ ltb 0 (length (digits_in precision bytes))
+unfolding digits_in
+first_absent [] h = refl
+first_absent (b ∷ bs) h = absurd (omega arith)
+
+-- where none stands first the digits are those behind the point
+digits_pointed : (bytes : List ℕ) → digits_in precision bytes ≡ [] → all_digits_of (numeral_in bytes) ≡ fraction_digits (point_in precision bytes)
+unfolding numeral_in
+digits_pointed bytes none = rw none
+
+-- behind a point that stands first
+pub digit_behind_point : (text : List ℕ) {some : Bool} → 0 < length text → get_or text 0 0 ≡ point_byte
+    → some ≡ ltb 0 (length (digits_in precision (onward 1 text)))
+    → some ≡ ltb 0 (length (all_digits_of (numeral_in text)))
+unfolding fraction_digits
+digit_behind_point text h e w =
+    let all : all_digits_of (numeral_in text) ≡ digits_in precision (drop 1 text) =
+    digits_pointed text (digits_other precision text h (ap is_digit e)) ∙ ap fraction_digits (point_some precision text h e) in
+    w
+    ∙ ap (λ (l : List ℕ). ltb 0 (length (digits_in precision l))) (take_rest text 1)
+    ∙ ap (λ (l : List ℕ). ltb 0 (length l)) (sym all)
+
+-- where no byte stands
+pub digit_absent : (text : List ℕ) → length text < 1 → false ≡ ltb 0 (length (all_digits_of (numeral_in text)))
+unfolding numeral_in digits_in point_in fraction_digits
+digit_absent [] h = refl
+digit_absent (b ∷ bs) h = absurd (omega arith)
+
+-- where no point stands first
+pub digit_first : (text : List ℕ) {some : Bool} → (0 < length text → get_or text 0 0 ≡ point_byte → ⊥)
+    → some ≡ ltb 0 (length (digits_in precision text))
+    → some ≡ ltb 0 (length (all_digits_of (numeral_in text)))
+unfolding numeral_in fraction_digits
+digit_first text {some} other w = go (digits_in precision text) refl
+  where
+    go : (ds : List ℕ) → digits_in precision text ≡ ds → some ≡ ltb 0 (length (all_digits_of (numeral_in text)))
+    go [] e =
+        let all : all_digits_of (numeral_in text) ≡ [] = digits_pointed text e ∙ ap fraction_digits (point_none precision text other) in
+        w ∙ ap (λ (l : List ℕ). ltb 0 (length l)) (e ∙ sym all)
+    go (d ∷ ds) e =
+        let some_digits : 0 < length (digits_in precision text) = omega (arith, ap length e) in
+        let more : 0 < length (all_digits_of (numeral_in text)) =
+        omega (arith, some_digits, length-append (digits_in precision text) (fraction_digits (numeral_in text).fraction)) in
+        w
+        ∙ lt-ltb 0 (length (digits_in precision text)) some_digits
+        ∙ sym (lt-ltb 0 (length (all_digits_of (numeral_in text))) more)
+
 -- The parts of a text, one behind the other: the parts of parts_in, by name.
 
 -- the bytes behind the blanks
@@ -659,8 +719,8 @@ module _ (text : List ℕ) where
   unfolding convert_text
   convert_other other = rw (ne_eqb (legal_length text) (length text) other)
 
-  module _ {before signs : ℕ} {minus : Bool} {n : Numeral} (first : before ≡ blanks_in text) (said : SignFound (onward before text) minus signs)
-      (found : NumeralFound (onward signs (onward before text)) n) where
+  module _ {before signs : ℕ} {minus some : Bool} (first : before ≡ blanks_in text) (said : SignFound (onward before text) minus signs)
+      (digits : some ≡ ltb 0 (length (all_digits_of (numeral_in (onward signs (onward before text)))))) where
     -- the bytes behind the blanks
     to_signed : onward before text ≡ signed_in text
     unfolding signed_in
@@ -675,32 +735,34 @@ module _ (text : List ℕ) where
     unfolding unsigned_in
     to_unsigned = take_rest (onward before text) signs ∙ (λ i. drop (signed.spanned i) (to_signed i))
 
-    -- the numeral there
-    numeral : NumeralFound (unsigned_in text) n
-    numeral = rw to_unsigned at found
-
-    -- no digit was read
-    pub read_none : n.count ≡ 0 → no_reading ≡ reading_in text
+    -- no digit stands there
+    pub read_none : some ≡ false → no_reading ≡ reading_in text
     unfolding parts_in unsigned_in signed_in
-    read_none none = sym (reading_none (sym numeral.counted ∙ none))
+    read_none none =
+        let empty = ltb-false 0 (length (all_digits_of (numeral_in (onward signs (onward before text))))) (sym digits ∙ none) in
+        sym (reading_none (omega (arith, empty, ap (λ (l : List ℕ). length (all_digits_of (numeral_in l))) to_unsigned)))
 
-    -- digits were read, and the parts make the text
-    pub read_some : {behind : ℕ} {number : Answer Number}
-        → (n.count ≡ 0 → ⊥)
+    -- digits stand there, and the parts make the text
+    pub read_some : {n : Numeral} {behind : ℕ} {number : Answer Number}
+        → some ≡ true
+        → NumeralFound (onward signs (onward before text)) n
         → behind ≡ blanks_in (onward n.used (onward signs (onward before text)))
         → number ≡ scaled_number 0 minus n.value n.up (exponent_limit + n.places)
         → ◌≡◌ {A = TextReading} (record { used = before + signs + n.used + behind; number = number }) (reading_in text)
     unfolding parts_in end_in unsigned_in signed_in text_value
-    read_some {behind} {number} some last scaled =
+    read_some {n} {behind} {number} is found last scaled =
         let t = parts_in text in
-        let digits : length (all_digits_of t.numeral) ≡ 0 → ⊥ = λ h. some (numeral.counted ∙ h) in
+        let numeral : NumeralFound (unsigned_in text) n = rw to_unsigned at found in
+        let more = ltb-true 0 (length (all_digits_of (numeral_in (onward signs (onward before text))))) (sym digits ∙ is) in
+        let same = ap (λ (l : List ℕ). length (all_digits_of (numeral_in l))) to_unsigned in
+        let there : length (all_digits_of t.numeral) ≡ 0 → ⊥ = λ h. omega (arith, more, same, h) in
         let to_end : onward n.used (onward signs (onward before text)) ≡ end_in text =
         take_rest (onward signs (onward before text)) n.used ∙ (λ i. drop (numeral.spanned i) (to_unsigned i)) in
         let down_is = ap (λ (k : ℕ). exponent_limit + k) numeral.placed in
         let value-is : number ≡ text_value t = scaled ∙ (λ i. scaled_number 0 (signed.valued i) (numeral.valued i) (numeral.powered i) (down_is i)) in
         let size_is : before + signs + n.used + behind ≡ length (text_bytes t) =
         omega (arith, text_length_lem t, first, signed.spanned, numeral.spanned, last ∙ ap blanks_in to_end) in
-        (λ i. record { used = size_is i; number = value-is i }) ∙ sym (reading_some digits)
+        (λ i. record { used = size_is i; number = value-is i }) ∙ sym (reading_some there)
 
 -- What an answer that is the reading of bytes says.
 

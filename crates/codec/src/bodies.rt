@@ -1,5 +1,5 @@
 // Whole bodies one behind the other, all of them checked, and the alpha texts of one (document 01: Record file).
-ghost use Rattle.std.specs.Prelude.{◌≡◌, true, suc, length};
+ghost use Rattle.std.specs.Prelude.{◌≡◌, ◌%◌, true, suc, length};
 ghost use Rattle.decimal.specs.Answer.{done, meaning, checked_only};
 ghost use Rattle.codec.specs.Answers.{stored_in, sized};
 ghost use Rattle.codec.specs.Alpha.{line_length};
@@ -13,6 +13,12 @@ use crate::columns::column_size;
 use crate::contents::Contents;
 use crate::reading::{are_all_digits, is_readable};
 use decimal::Refusal;
+
+// The first block of a check has at most so many bodies.
+const FIRST_BLOCK: usize = 32;
+
+// And every block at most so many.
+const LARGEST_BLOCK: usize = 512;
 
 impl Contents {
     // Whether a body, none of whose half bytes is above 9, can be read.
@@ -43,7 +49,21 @@ impl Contents {
         self.check_body(body)
     }
 
-    // Whether bytes are whole bodies that can all be read: refused with 11, then as the first bad body is.
+    // Whether whole bodies can all be read: refused as the first bad one is. The half bytes of all of them are looked at first.
+    #[tactic(auto, using(crate::proofs::FrontLaws::sound_body))]
+    fn check_block(&self, bodies: &[u8]) -> Result<(), Refusal>
+        requires { length bodies.now % body_size self.now.images ≡ 0 }
+        ensures { meaning result ≡ check_bodies self.now.images bodies.now }
+    {
+        let digits = are_all_digits(bodies);
+        for body in bodies.chunks_exact(self.body) {
+            self.check_next(body, digits)?;
+        }
+        Ok(())
+    }
+
+    // Whether bytes are whole bodies that can all be read: refused with 11, then as the first bad body is. They go block by block, each at
+    // most twice the one before it, so that little is looked at behind a bad body.
     #[tactic(auto, using(crate::proofs::FrontLaws::sound_body, crate::proofs::BodiesLaws::bodies_torn))]
     pub fn check_bodies(&self, bodies: &[u8]) -> Result<(), Refusal>
         ensures { meaning result ≡ check_bodies self.now.images bodies.now }
@@ -52,9 +72,16 @@ impl Contents {
         if is_torn {
             return Err(Refusal::WRONG_LENGTH);
         }
-        let digits = are_all_digits(bodies);
-        for body in bodies.chunks_exact(self.body) {
-            self.check_next(body, digits)?;
+        let mut left = bodies;
+        let mut count = bodies.len() / self.body;
+        let mut most = FIRST_BLOCK;
+        while 0 < count {
+            let taken = count.min(most);
+            let (block, behind) = left.split_at(taken * self.body);
+            self.check_block(block)?;
+            left = behind;
+            count -= taken;
+            most = (2 * taken).min(LARGEST_BLOCK);
         }
         Ok(())
     }

@@ -10,7 +10,7 @@ use decimal::{Image, Refusal, read_image};
 use std::marker::Model;
 
 // A contents that was read: its images, its own length in bytes, and the length of a body under it.
-#[derive(Clone, Debug, PartialEq, Eq, Hash, Drop)]
+#[derive(Clone, Copy, Debug, PartialEq, Eq, Hash)]
 pub struct Contents {
     images: Images,
     pub(crate) size: usize,

@@ -23,7 +23,7 @@ pub use answers::written_part;
 pub use bodies::ReadBody;
 pub use columns::{column_size, sign_count};
 pub use contents::Contents;
-pub use lists::{MAX_COLUMNS, Numbers, Remainders};
+pub use lists::{Blank, FixedList, Images, MAX_COLUMNS, Numbers, Remainders};
 pub use ordering::{least_run, ordered_run};
 pub use packing::{check_list, pack, store_column};
 pub use remainders::{Packed, pack_with_remainders};

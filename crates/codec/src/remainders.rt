@@ -12,7 +12,7 @@ use crate::packing::pack;
 use decimal::{Fitting, Image, Number, Refusal, Remainder};
 
 // How many bytes packing wrote, and what truncation cut off the numbers that it packed, one remainder for each column.
-#[derive(Clone, Debug, PartialEq, Eq, Hash, Drop)]
+#[derive(Clone, Copy, Debug, PartialEq, Eq, Hash)]
 pub struct Packed {
     pub size: usize,
     pub remainders: Remainders,

@@ -1,10 +1,14 @@
 // Text numbers: the legal length of a text, reading the number that a text begins with, and converting a whole text (document 01: Alpha
 // text, second paragraph; document 02, (i) and (v)).
-ghost use Rattle.std.specs.Prelude.{◌≡◌};
+ghost use Rattle.std.specs.Prelude.{◌≡◌, length, ltb};
 ghost use Rattle.decimal.specs.Answer.{meaning};
+ghost use Rattle.decimal.specs.Digits.{precision};
 ghost use Rattle.decimal.specs.Image.{leading_sign};
 ghost use Rattle.codec.specs.Text.{
   is_minus,
+  digits_in,
+  all_digits_of,
+  numeral_in,
   legal_length,
   convert_text,
   DigitsFit,
@@ -193,6 +197,32 @@ fn leading_power(text: &[u8]) -> Power
     Power { up, used }
 }
 
+// Whether a text begins with a digit.
+fn begins_digit(text: &[u8]) -> bool
+    ensures { result ≡ ltb 0 (length (digits_in precision text.now)) }
+{
+    match text {
+        [first, ..] => first.is_ascii_digit(),
+        [] => false,
+    }
+}
+
+// Whether the numeral that a text begins with has a digit: one stands first, or behind a point that stands first.
+fn has_digit(text: &[u8]) -> bool
+    ensures { result ≡ ltb 0 (length (all_digits_of (numeral_in text.now))) }
+{
+    match text {
+        [first, behind @ ..] => {
+            if *first == b'.' {
+                begins_digit(behind)
+            } else {
+                first.is_ascii_digit()
+            }
+        }
+        [] => false,
+    }
+}
+
 // The numeral that a text begins with; there may be no digit.
 #[tactic(auto, using(crate::proofs::TextLaws::run_few, crate::proofs::TextLaws::run_held, crate::proofs::TextLaws::fraction_most, crate::proofs::TextLaws::fraction_inside, crate::proofs::TextLaws::power_inside))]
 fn leading_numeral(text: &[u8]) -> Numeral
@@ -220,10 +250,10 @@ pub(crate) fn read_text(text: &[u8]) -> Reading
     let signed = &text[before..];
     let sign = leading_spaced_sign(signed);
     let unsigned = &signed[sign.used..];
-    let numeral = leading_numeral(unsigned);
-    if numeral.count == 0 {
+    if !has_digit(unsigned) {
         return NO_READING;
     }
+    let numeral = leading_numeral(unsigned);
     let end = before + sign.used + numeral.used;
     let used = end + leading_run(&unsigned[numeral.used..], b' ');
     let up = numeral.up as u16;

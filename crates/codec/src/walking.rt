@@ -26,7 +26,7 @@ pub enum Stop {
 
 // The text numbers that were read in order, and where and why reading stopped: a refused number's refusal, or another reason.
 // The list stands beside the answer and not in it, since the numbers before a refused one are given too.
-#[derive(Clone, Debug, PartialEq, Eq, Hash, Drop)]
+#[derive(Clone, Copy, Debug, PartialEq, Eq, Hash)]
 pub struct TextNumbers {
     pub answer: Result<Stop, Refusal>,
     pub numbers: Numbers,

@@ -9,7 +9,7 @@ mod writing;
 
 pub use checked_file::CheckedFile;
 pub use entering::{EntryRefusal, enter};
-pub use listing::{MAX_FILE, MAX_REPORT, list, report};
+pub use listing::{MAX_FILE, MAX_REPORT, list, report, report_length};
 pub use record_file::{RecordFile, add, show, write_contents};
 pub use reserving::{Reservation, reserve, write_reserved};
 pub use whole::{WholeLength, whole_length};

@@ -6,6 +6,7 @@ mod lines;
 
 pub use files::{
     CheckedFile, EntryRefusal, MAX_FILE, MAX_REPORT, RecordFile, Reservation, WholeLength, add,
-    enter, list, report, reserve, show, whole_length, write_contents, write_reserved,
+    enter, list, report, report_length, reserve, show, whole_length, write_contents,
+    write_reserved,
 };
 pub use lines::{Element, MAX_ELEMENTS, Printed, forecast, print, read_field, scan};

@@ -1,5 +1,6 @@
 -- Laws of the walk, one position after the other. Assumes nothing.
-use Rattle.std.proofs.Common.{◌≡◌, ℕ, zero, suc, ◌+◌, ◌*◌, ◌/◌, ◌%◌, ◌<◌, ◌≤◌, Bool, true, false, not, List, [], ◌∷◌, ◌++◌, Option, length, map, drop, get_or, add-one, refl, ap, ap₂, sym, subst, ◌∙◌, arith, drop-cons, append_assoc, append-nil, zero-mul}
+use Rattle.std.proofs.Common.{◌≡◌, ℕ, zero, suc, ◌+◌, ◌*◌, ◌/◌, ◌%◌, ◌<◌, ◌≤◌, Bool, true, false, not, ◌&&◌, List, [], ◌∷◌, ◌++◌, Option, length, map, take, drop, get_or, add-one, refl, ap, ap₂, sym, subst, ◌∙◌, arith, drop-cons, append_assoc, append-nil, zero-mul}
+use Rattle.std.specs.Prelude.{IfSome, IsSomeAnd, Some, None}
 use Rattle.std.proofs.lemmas.List.{length-map}
 use Rattle.std.specs.List.{drop-map}
 use native.Mathlib.Nat.{add-mul}
@@ -13,6 +14,7 @@ use borrow.Author.Tests.{eqb-true}
 use Rattle.decimal.specs.declared.image.Image.{Image}
 use Rattle.decimal.specs.declared.number.Number.{Number}
 use Rattle.decimal.specs.Answer.{done}
+use Rattle.decimal.proofs.BoolLaws.{and_true}
 use Rattle.decimal.specs.Number.{zero_number, normal}
 use Rattle.codec.specs.Columns.{column_size, body_size, Checked}
 use Rattle.codec.specs.Lists.{no_image}
@@ -21,7 +23,7 @@ use Rattle.codec.specs.Ordering.{LeastRun}
 use Rattle.codec.proofs.ContentsLaws.{checked_at}
 use Rattle.codec.proofs.FrontLaws.{body_some}
 use Rattle.records.proofs.FileProofs.JoinedLaws.{Each, each_bytes}
-use Rattle.rolls.specs.Falling.{at_most}
+use Rattle.rolls.specs.Falling.{at_most, normal_at_most}
 use Rattle.rolls.specs.Merging.{first_column_of}
 use Rattle.rolls.specs.Searching.{Search, giving, comparing, walk, first_record, check_numbers}
 use Rattle.rolls.specs.Runs.{all_bodies, runs_in, first_reaching, Ordered}
@@ -249,6 +251,16 @@ walking_ends {ims} {ps = ps} {left} {r = r} {compared} {given} w l =
     ∙ ap (λ (qs : List Number). joined given compared (walk r qs columns)) (sym (drop_of_length-le ps l))
     ∙ w.whole
 
+-- a number that is at most another, both in normal form, is
+at_most_told : (a b : Number) → normal_at_most a b ≡ true → at_most a b ≡ true
+unfolding normal_at_most
+at_most_told a b h = (and_true (normal b) (at_most a b) (and_true (normal a) (normal b && at_most a b) h).1).1
+
+-- a number at hand is at least a position
+front_told : (front : Option Number) (p k : Number) → IfSome front (λ n. n ≡ k) → IsSomeAnd front (λ n. normal_at_most p n ≡ true) → normal_at_most p k ≡ true
+front_told (Some n) p k f reached = ap (normal_at_most p) (sym f) ∙ reached
+front_told None p k f reached = absurd reached
+
 -- The loop over the positions.
 
 -- a position more, as the code holds what it goes by
@@ -265,7 +277,7 @@ pub record Step (ims : List Image) (all : List ℕ) (ps : List Number) (left : L
       → Walking ims all ps left_now (index + 1) (r + c) compared_now given_now
 
 -- the record number is at most the count of bytes
-walking_few : {ims : List Image} {all : List ℕ} {ps : List Number} {left : List ℕ} {index r compared : ℕ} {given : List ℕ}
+pub walking_few : {ims : List Image} {all : List ℕ} {ps : List Number} {left : List ℕ} {index r compared : ℕ} {given : List ℕ}
     → Walking ims all ps left index r compared given → 0 < body_size ims → r + length left ≤ length all
 walking_few {ims} {r = r} w some = let wide : r * 1 ≤ r * body_size ims = mul-le-mul_left r some in omega (arith, w.reached)
 
@@ -276,6 +288,66 @@ module _ {ims : List Image} {all : List ℕ} {ps : List Number} {left : List ℕ
   counts_asked {width} {size} k s =
       let t = ordered_told o known in
       (omega (arith, t.width), omega (arith, t.some), ap (λ (n : ℕ). length left % n) s ∙ filled_rest w.filled)
+
+  -- a position left over, where no body is left
+  pub walking_past : {given_now : List ℕ} → index < length ps → eqb (length left) 0 ≡ true → given_now ≡ given ++ r ∷ [] → Walking ims all ps left (index + 1) r compared given_now
+  walking_past more n g =
+      let t = ordered_told o known in
+      let p : Number = get_or ps index zero_number in
+      let others : List Number = drop (suc index) ps in
+      let columns : List Number = map (first_column_of ims) (all_bodies (body_size ims) left) in
+      let none : columns ≡ [] = ap (map (first_column_of ims)) (filled_none t.some left (eqb-true (length left) 0 n)) in
+      let same : compared ≡ compared + 0 = omega arith in
+      record {
+        filled = w.filled;
+        reached = w.reached;
+        each = w.each;
+        whole =
+            (λ i. joined (g i) (same i) (walk r (drop (add-one index i) ps) (none i)))
+            ∙ sym (joined_joined given compared (r ∷ []) 0 (walk r others []))
+            ∙ ap (joined given compared) (sym (walk_left r p others))
+            ∙ ap (λ (ks : List Number). joined given compared (walk r (p ∷ others) ks)) (sym none)
+            ∙ ap (λ (l : List Number). joined given compared (walk r l columns)) (sym (drop-cons ps index zero_number more))
+            ∙ w.whole;
+        settled = ap length g ∙ omega (arith, length-append given (r ∷ []), w.settled);
+        few = omega (arith, w.few);
+      }
+
+  -- a position that the record at the front reaches, as a number at hand tells
+  pub walking_reached :
+      {given_now : List ℕ}
+      → index < length ps
+      → eqb (length left) 0 ≡ false
+      → (front : Option Number) (d : Number)
+      → IfSome front (λ n. n ≡ first_column_of ims (take (body_size ims) left))
+      → IsSomeAnd front (λ n. normal_at_most (get_or ps index d) n ≡ true)
+      → given_now ≡ given ++ r ∷ []
+      → Walking ims all ps left (index + 1) r (compared + 1) given_now
+  walking_reached more n front d f reached g =
+      let t = ordered_told o known in
+      let p : Number = get_or ps index zero_number in
+      let others : List Number = drop (suc index) ps in
+      let size : ℕ = body_size ims in
+      let columns : List Number = map (first_column_of ims) (all_bodies size left) in
+      let k : Number = first_column_of ims (take size left) in
+      let ks : List Number = map (first_column_of ims) (all_bodies size (drop size left)) in
+      let splits : columns ≡ k ∷ ks = ap (map (first_column_of ims)) (filled_next t.some w.filled n).splits in
+      let position : get_or ps index d ≡ p = get_or_default ps index d zero_number more in
+      let low : at_most p k ≡ true = at_most_told p k (ap (λ (m : Number). normal_at_most m k) (sym position) ∙ front_told front (get_or ps index d) k f reached) in
+      record {
+        filled = w.filled;
+        reached = w.reached;
+        each = w.each;
+        whole =
+            (λ i. joined (g i) (compared + 1) (walk r (drop (add-one index i) ps) (splits i)))
+            ∙ sym (joined_joined given compared (r ∷ []) 1 (walk r others (k ∷ ks)))
+            ∙ ap (joined given compared) (sym (walk_reached r p others k ks low))
+            ∙ ap (λ (l : List Number). joined given compared (walk r (p ∷ others) l)) (sym splits)
+            ∙ ap (λ (l : List Number). joined given compared (walk r l columns)) (sym (drop-cons ps index zero_number more))
+            ∙ w.whole;
+        settled = ap length g ∙ omega (arith, length-append given (r ∷ []), w.settled);
+        few = omega (arith, w.few);
+      }
 
   pub step_told :
       check_numbers 0 ps ≡ done tt

@@ -1,9 +1,10 @@
 // Finding a page's positions in a file, all in one pass (document 02, (iii)).
-ghost use Rattle.std.specs.Prelude.{◌≡◌, ◌%◌, ◌<◌, ◌≤◌, length};
+ghost use Rattle.std.specs.Prelude.{true, ◌≡◌, ◌%◌, ◌<◌, ◌≤◌, length, take, IfSome, IsSomeAnd};
 ghost use Rattle.decimal.specs.Answer.{done, meaning, mapped};
 ghost use Rattle.codec.specs.Columns.{body_size};
 ghost use Rattle.codec.specs.Ordering.{reaches};
-ghost use Rattle.rolls.specs.Falling.{fall};
+ghost use Rattle.rolls.specs.Falling.{fall, normal_at_most};
+ghost use Rattle.rolls.specs.Merging.{first_column_of};
 ghost use Rattle.rolls.specs.Runs.{all_bodies, runs_in, first_reaching, Ordered};
 ghost use Rattle.rolls.specs.Searching.{
   max_positions,
@@ -19,8 +20,7 @@ ghost use Rattle.rolls.specs.Searching.{
 };
 
 use crate::falling::{bodies_fall, is_at_most};
-use arrayvec::ArrayVec;
-use codec::{Contents, column_size, least_run, ordered_run};
+use codec::{Contents, FixedList, Numbers, column_size, least_run, ordered_run};
 use decimal::{Image, Number, Reason, Refusal, Sign};
 use records::RecordFile;
 
@@ -28,9 +28,9 @@ use records::RecordFile;
 pub const MAX_POSITIONS: usize = 64;
 
 // For each position the number of a record, and the count of comparisons made.
-#[derive(Clone, Debug, PartialEq, Eq, Hash, Drop)]
+#[derive(Clone, Copy, Debug, PartialEq, Eq, Hash)]
 pub struct Found {
-    pub records: ArrayVec<usize, MAX_POSITIONS>,
+    pub records: FixedList<usize, MAX_POSITIONS>,
     pub comparisons: usize,
 }
 
@@ -135,6 +135,31 @@ fn count_below(bodies: &[u8], body: usize, width: usize, least: Option<u64>) -> 
     below
 }
 
+// The first column of the record that bodies begin with, as a number, where no more bodies are left than a page has positions. A body that
+// is refused leaves no number.
+#[tactic(auto, unfolding(crate::specs::Merging::first_column_of))]
+fn front_number(contents: &Contents, bodies: &[u8]) -> Option<Number>
+    ensures { IfSome result (λ number. number ≡ first_column_of contents.now.images (take (body_size contents.now.images) bodies.now)) }
+{
+    let body = contents.body_size();
+    if body.saturating_mul(MAX_POSITIONS) < bodies.len() {
+        return None;
+    }
+    let mut numbers = Numbers::new();
+    let _ = contents.unpack_into(&bodies[..body.min(bodies.len())], &mut numbers);
+    numbers.first().copied()
+}
+
+// Whether a position is at most a number, where there is one.
+fn is_reached(front: Option<Number>, position: Number) -> bool
+    ensures { result ≡ true → IsSomeAnd front (λ number. normal_at_most position number ≡ true) }
+{
+    match front {
+        Some(number) => is_at_most(position, number),
+        None => false,
+    }
+}
+
 // The walk over positions and records: it compares the current position with the current record, goes to the next position if the record
 // is at least as large, else to the next record, and ends when either runs out; positions left over take the record count.
 fn walk(contents: &Contents, bodies: &[u8], positions: &[Number]) -> Found
@@ -145,14 +170,25 @@ fn walk(contents: &Contents, bodies: &[u8], positions: &[Number]) -> Found
     let image = contents.images()[0];
     let width = column_size(image);
     let body = contents.body_size();
-    let mut records = ArrayVec::new();
+    let mut records = FixedList::new();
     let mut comparisons = 0;
     let mut record = 0;
     let mut left = bodies;
+    let mut front = front_number(contents, left);
     for position in positions {
+        if left.is_empty() {
+            records.push(record);
+            continue;
+        }
+        if is_reached(front, *position) {
+            comparisons += 1;
+            records.push(record);
+            continue;
+        }
         let below = count_below(left, body, width, least_run(image, *position));
         let (_, behind) = left.split_at(below * body);
         left = behind;
+        front = front_number(contents, left);
         record += below;
         comparisons += below + usize::from(!left.is_empty());
         records.push(record);

@@ -4,12 +4,15 @@ use mathlib.Core.Path.{◌≡◌, refl, sym, subst}
 use mathlib.Core.List.{List}
 use native.Mathlib.Omega.{arith}
 use lib.ListN.{length, take, drop}
+use Rattle.std.proofs.Common.{Result, Ok, Err, IfOk}
+use Rattle.std.specs.Borrow.{Bor}
 use Rattle.std.specs.declared.ops.Range.{Range}
-use Rattle.decimal.specs.Answer.{Answer, done, refused, mapped}
-use Rattle.decimal.proofs.AnswerLaws.{mapped_back, mapped_refused_back}
+use Rattle.decimal.specs.declared.refusal.Refusal.{Refusal}
+use Rattle.decimal.specs.Answer.{Answer, done, refused, mapped, meaning}
+use Rattle.decimal.proofs.AnswerLaws.{done_same, never_done, mapped_back, mapped_refused_back}
 use Rattle.codec.specs.Columns.{body_size}
 use Rattle.records.specs.declared.files.record_file.RecordFile.{RecordFile}
-use Rattle.records.specs.Files.RecordFile.{Part, record_count, range_of, shown, shown_bodies}
+use Rattle.records.specs.Files.RecordFile.{Part, record_count, range_of, now_of, shown, part_of, shown_part, shown_bodies}
 use Rattle.records.specs.Files.Tables.{table_in, bytes_in}
 use Rattle.records.proofs.FileProofs.FileLaws.{FileRead, file_told, shown_none, shown_there, record_inside}
 
@@ -59,3 +62,23 @@ part_there file index {q} h =
 pub part_none : (file : List ℕ) (index : ℕ) {x y : ℕ} → refused x y ≡ mapped range_of (shown file index) → shown_bodies file index ≡ refused x y
 unfolding shown_bodies mapped
 part_none file index h = rw (mapped_refused_back range_of (shown file index) h)
+
+-- what showing gives is the part that the theorems speak of
+pub part_given : (file : List ℕ) (index : ℕ) {body : List ℕ} → done body ≡ shown_bodies file index → body ≡ shown_part file index
+unfolding shown_bodies mapped part_of
+part_given file index {body} h = go (shown file index) h
+  where
+    go :
+        (a : Answer Part)
+        → done body ≡ mapped (λ (p : Part). take p.size (drop p.start file)) a
+        → body ≡ part_of file a
+    go (done p) e = done_same e
+    go (refused number place) e = never_done (sym e)
+
+pub given_part :
+    (file : List ℕ) (index : ℕ) (r : Result (Bor (List ℕ)) Refusal)
+    → mapped now_of (meaning r) ≡ shown_bodies file index
+    → IfOk r (λ body. body.now ≡ shown_part file index)
+unfolding mapped
+given_part file index (Ok body) h = part_given file index h
+given_part file index (Err refusal) h = tt

@@ -4,18 +4,14 @@ use Prim.Native.Nat.{ℕ, zero, suc, pred, ◌+◌, ◌-◌, ◌<◌, ◌≤◌,
 use native.Mathlib.Omega.{arith}
 use native.Mathlib.Numerals.{add-one}
 use mathlib.Core.Path.{◌≡◌, refl, ap, sym, ◌∙◌, subst}
-use mathlib.Core.Logic.{◌⊎◌, ⊎_elim}
+use mathlib.Core.Logic.{◌⊎◌, ⊎_elim, inl, inr}
 use mathlib.Core.List.{List, [], ◌∷◌, ◌++◌}
-use mathlib.Core.Bool.{Bool, true, false, cond, ◌||◌}
-use lib.Dec.{eqb, ltb}
+use mathlib.Core.Bool.{Bool, true, false, ◌||◌}
+use lib.Dec.{eqb}
 use lib.ListN.{length, take, drop, get_or, drop_of_length-le, length-drop}
 use lib.Seq.{drop-cons, drop-drop, length-take-le, take_all, get_or-take}
-use borrow.Author.Tests.{eq-eqb, ne_eqb, ltb-false}
-use Rattle.std.proofs.Common.{Option, Some, None}
+use borrow.Author.Tests.{eq-eqb, ne_eqb}
 use Rattle.std.proofs.lemmas.List.{length-take, take_rest}
-use Rattle.std.proofs.lemmas.List.Quantifiers.{position-Some}
-use Rattle.std.proofs.lemmas.List.Sums.{fails_before_first}
-use Rattle.std.specs.List.{position, position_or_len}
 use Rattle.decimal.specs.declared.image.Sign.{Sign}
 use Rattle.decimal.specs.declared.image.Sign.TheVariants.{Unsigned}
 use Rattle.decimal.specs.Image.{Start, Stopped}
@@ -56,38 +52,9 @@ starts_not b h bs = rw (stops, stopped_none 1 bs)
         let n = either (eqb b hash_byte) (eqb b point_byte) m.1 in
         rw (p.0, m.0, n.0, n.1) (go (eqb b comma_byte) (eqb b up_byte))
 
--- so many bytes that bytes begin with are literal
-pub record Skipped (bytes : List ℕ) (size : ℕ) : Type 0 where
-  pub inside : size ≤ length bytes
-  pub literal : (k : ℕ) → k < size → field_length (drop k bytes) ≡ 0
-
--- bytes of which none can begin a field are literal
-skipped_from : (bytes : List ℕ) (size : ℕ) → size ≤ length bytes → ((k : ℕ) → k < size → begins_field (get_or bytes k 0) ≡ false) → Skipped bytes size
-skipped_from bytes size h none =
-    record {
-      inside = h;
-      literal =
-          λ k l. ap field_length (left_cons bytes k (omega arith)) ∙ starts_not (get_or bytes k 0) (none k l) (drop (k + 1) bytes);
-    }
-
--- so are those before the first that can
-pub skipped_some : (bytes : List ℕ) {size : ℕ} → position begins_field bytes ≡ Some size → Skipped bytes size × (size < length bytes)
-skipped_some bytes {size} e =
-    let p = position-Some begins_field bytes size 0 e in
-    (skipped_from bytes size (omega (arith, p.0)) p.2, p.0)
-
--- and all, where none can
-pub skipped_all : (bytes : List ℕ) → position begins_field bytes ≡ None → Skipped bytes (length bytes)
-skipped_all bytes e = skipped_from bytes (length bytes) (omega arith) (λ k l. fails_before_first begins_field bytes k 0 (none k l))
-  where
-    go : (b : Bool) (n : ℕ) → ◌≡◌ {A = Option ℕ} (cond b (Some n) None) None → b ≡ false
-    go true n h = let z : ◌≡◌ {A = ℕ} 0 1 = cc in absurd (omega arith)
-    go false n h = refl
-
-    none : (k : ℕ) → k < length bytes → k < position_or_len begins_field bytes
-    none k l =
-        let past = go (ltb (position_or_len begins_field bytes) (length bytes)) (position_or_len begins_field bytes) e in
-        omega (arith, ltb-false (position_or_len begins_field bytes) (length bytes) past)
+-- bytes of which the first is another are literal there
+pub begins_not : (bytes : List ℕ) → 0 < length bytes → begins_field (get_or bytes 0 0) ≡ false → field_length bytes ≡ 0
+begins_not bytes h e = ap field_length (drop-cons bytes 0 0 h) ∙ starts_not (get_or bytes 0 0) e (drop 1 bytes)
 
 -- The fields from a place on.
 
@@ -256,71 +223,84 @@ module _ {line : List ℕ} {fields : List Field} {count place : ℕ} (r : Findin
         held = held_next max_fields count (line_fields line) list r.held w;
       })
 
--- literal bytes are passed over
-finding_over : {line : List ℕ} {fields : List Field} {count place : ℕ} (n : ℕ) → Finding line fields count place → Skipped (drop place line) n
-    → Finding line fields count (place + n)
-finding_over {line} {fields} {count} {place} zero r s =
-    let same : place ≡ place + 0 = omega arith in subst (Finding line fields count) same r
-finding_over {line} {fields} {count} {place} (suc n) r s =
-    let same : place + n + 1 ≡ place + suc n = omega arith in
-    let fewer : Skipped (drop place line) n = record { inside = omega (arith, s.inside); literal = λ k h. s.literal k (omega arith) } in
-    rw same at
-    (finding_literal (finding_over n r fewer) (omega (arith, s.inside, length-drop place line, r.inside))
-    (ap field_length (sym (drop-drop n place line)) ∙ s.literal n (omega arith)))
+-- The walk as the code goes: the bytes from its place on are left.
 
--- A turn of the walk, from a place of the line on.
+pub record Walking (line : List ℕ) (fields : List Field) (count : ℕ) (rest : List ℕ) : Type 0 where
+  pub finding : Finding line fields count (length line - length rest)
+  pub left : rest ≡ drop (length line - length rest) line
+  pub inside : length rest ≤ length line
 
-module _ {line : List ℕ} {fields : List Field} {count place : ℕ} (r : Finding line fields count place) where
-  -- the bytes before the first that can begin a field are passed over
-  pub finding_skips : {size : ℕ} → position begins_field (take (length line - place) (drop place line)) ≡ Some size
-      → Finding line fields count (place + size) × (place + size < length line)
-  finding_skips {size} e =
-      let s = skipped_some (drop place line) (rw (take_rest line place) at e) in
-      (finding_over size r s.0, omega (arith, s.1, length-drop place line, r.inside))
+-- before the first byte
+pub walking_starts : (line : List ℕ) {fields : List Field} → fields ≡ [] → Walking line fields 0 line
+walking_starts line {fields} e =
+    let none : 0 ≡ length line - length line = omega arith in
+    let start : Finding line fields 0 0 = record { few = omega arith; within = omega arith; inside = omega arith; checks = refl; rest = refl; held = e } in
+    record { finding = subst (Finding line fields 0) none start; left = ap (λ (k : ℕ). drop k line) none; inside = omega arith }
 
-  -- where none can, all is found
-  pub found_listed : position begins_field (take (length line - place) (drop place line)) ≡ None
-      → (check_fields 0 0 line ≡ done tt) × Listed line fields
+module _ {line : List ℕ} {fields : List Field} {count : ℕ} {rest : List ℕ} (r : Walking line fields count rest) where
+  -- so many bytes further
+  walking_moves : {n more : ℕ} {next : List ℕ} {held : List Field} → n ≤ length rest → next ≡ take (length rest - n) (drop n rest)
+      → Finding line held more (length line - length rest + n)
+      → Walking line held more next
+  walking_moves {n} {more} {next} {held} h l f =
+      let over : next ≡ drop n rest = l ∙ take_rest rest n in
+      let size : length next ≡ length rest - n = ap length over ∙ length-drop n rest in
+      let place : length line - length rest + n ≡ length line - length next = omega (arith, size, r.inside, h) in
+      record {
+        finding = subst (Finding line held more) place f;
+        left = over ∙ ap (drop n) r.left ∙ drop-drop n (length line - length rest) line ∙ ap (λ (k : ℕ). drop k line) place;
+        inside = omega (arith, size, r.inside);
+      }
+
+  -- a literal byte is passed over
+  pub walking_literal : {next : List ℕ} → 0 < length rest → field_length rest ≡ 0 → next ≡ take (length rest - 1) (drop 1 rest) → Walking line fields count next
+  walking_literal h z l =
+      walking_moves (omega arith) l
+      (finding_literal r.finding (omega (arith, r.inside)) (ap field_length (sym r.left) ∙ z))
+
+  -- where none is left, all is found: the first ones are listed, and all are counted
+  pub found_listed : length rest ≡ 0 → (check_fields 0 0 line ≡ done tt) × Listed line fields × (count ≡ length (line_fields line))
   found_listed e =
-      let size : ℕ = length (drop place line) in
-      let end = finding_over size r (skipped_all (drop place line) (rw (take_rest line place) at e)) in
-      let over : length line ≤ place + size = omega (arith, length-drop place line) in
-      let none : drop count (line_fields line) ≡ [] = end.rest ∙ fields_end line (place + size) over in
+      let f = r.finding in
+      let place : ℕ = length line - length rest in
+      let over : length line ≤ place = omega arith in
+      let none : drop count (line_fields line) ≡ [] = f.rest ∙ fields_end line place over in
       let left : length (line_fields line) - count ≡ 0 = sym (length-drop count (line_fields line)) ∙ ap length none in
-      let all : take count (line_fields line) ≡ line_fields line = take_all count (line_fields line) (omega arith) in
-      (sym end.checks ∙ check_end count line (place + size) over, record { first = r.held ∙ ap (take max_fields) all })
+      let all : take count (line_fields line) ≡ line_fields line = take_all count (line_fields line) (omega arith) in (
+        sym f.checks ∙ check_end count line place over,
+        record { first = f.held ∙ ap (take max_fields) all },
+        omega (arith, left, f.within),
+      )
 
-  module _ {scanned : Scanned} (e : scanned ≡ scanned_field (take (length line - place) (drop place line))) where
-    -- what was scanned is the field there
-    scanned_there : scanned ≡ scanned_field (drop place line)
-    scanned_there = e ∙ ap scanned_field (take_rest line place)
-
-    -- it ends inside the line, and has no more # signs than bytes
-    pub finding_inside : (place + scanned.length ≤ length line) × (scanned.integer + scanned.fraction ≤ length line)
-    finding_inside =
-        let few = scanned_few (drop place line) scanned_there in
-        (omega (arith, few.0, length-drop place line, r.inside), omega (arith, few.1, length-drop place line))
-
+  module _ {scanned : Scanned} (e : scanned ≡ scanned_field rest) where
     -- a literal byte is passed over
-    pub finding_byte : place < length line → scanned.length ≡ 0 → Finding line fields count (place + 1)
-    finding_byte h z = finding_literal r h (sym (scanned_length (drop place line) scanned_there) ∙ z)
+    pub walking_byte : {next : List ℕ} → 0 < length rest → scanned.length ≡ 0 → next ≡ take (length rest - 1) (drop 1 rest) → Walking line fields count next
+    walking_byte h z = walking_literal h (sym (scanned_length rest e) ∙ z)
 
     module _ (some : scanned.length ≡ 0 → ⊥) where
-      -- a field is refused for its # signs
-      pub found_refused : precision < scanned.integer + scanned.fraction → check_fields 0 0 line ≡ refused 2 count
-      found_refused h =
-          finding_many r (λ z. some (scanned_length (drop place line) scanned_there ∙ z))
-          (omega (arith, scanned_hashes (drop place line) scanned_there))
+      -- what was scanned is the field there
+      field_there : field_length (drop (length line - length rest) line) ≡ 0 → ⊥
+      field_there z = some (scanned_length rest e ∙ ap field_length r.left ∙ z)
 
-      -- a field is passed over, and listed where there is room
-      pub finding_turn : {next : List Field} → scanned.integer + scanned.fraction ≤ precision
-          → ((length fields < max_fields) × (next ≡ fields ++ (field_of place (take (length line - place) (drop place line)) ∷ [])))
-          ⊎ ((max_fields ≤ length fields) × (next ≡ fields))
-          → Finding line next (count + 1) (place + scanned.length)
-      finding_turn {next} h w =
-          finding_field r (scanned_length (drop place line) scanned_there) some
-          (omega (arith, scanned_hashes (drop place line) scanned_there))
-          (rw (take_rest line place) at w)
+      hashes_there : scanned.integer + scanned.fraction ≡ hashes (scanned_image (take (field_length (drop (length line - length rest) line)) (drop (length line - length rest) line)))
+      hashes_there = scanned_hashes rest e ∙ ap (λ (bs : List ℕ). hashes (scanned_image (take (field_length bs) bs))) r.left
+
+      -- it is refused for its # signs
+      pub found_refused : precision < scanned.integer + scanned.fraction → check_fields 0 0 line ≡ refused 2 count
+      found_refused h = finding_many r.finding field_there (omega (arith, hashes_there))
+
+      -- it is passed over, and listed where there is room
+      pub walking_turn : {next : List ℕ} {held : List Field} → scanned.integer + scanned.fraction ≤ precision
+          → ((length fields < max_fields) × (held ≡ fields ++ (field_of (length line - length rest) rest ∷ []))) ⊎ ((max_fields ≤ length fields) × (held ≡ fields))
+          → next ≡ take (length rest - scanned.length) (drop scanned.length rest)
+          → Walking line held (count + 1) next
+      walking_turn {next} {held} h w l =
+          walking_moves (scanned_few rest e).0 l
+          (finding_field r.finding (scanned_length rest e ∙ ap field_length r.left) some (omega (arith, hashes_there))
+          (⊎_elim
+          (λ p. inl (p.0, p.1 ∙ ap (λ (bs : List ℕ). fields ++ (field_of (length line - length rest) bs ∷ [])) r.left))
+          (λ p. inr p)
+          w))
 
 -- The sign of a field is that of its first byte.
 field_sign : (bytes : List ℕ) → 0 < field_length bytes → sign_of (get_or bytes 0 0) ≡ leading_sign (take (field_length bytes) bytes)

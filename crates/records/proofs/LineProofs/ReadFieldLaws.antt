@@ -1,18 +1,14 @@
 -- Document 01, Print lines: reading a field back. A text number with no blank is short; what a loop over the field keeps.
 -- Assumes nothing.
-use Rattle.std.proofs.Common.{Option, Some, Result, Ok, Err, map, filter, cond, not, subst}
-use Rattle.std.specs.Result.{is_err, OnOk, OnErr}
-use Rattle.std.specs.Iterator.{YieldsThen}
-use Rattle.std.proofs.lemmas.Option.{slice_get_within}
-use Rattle.std.proofs.lemmas.Iterator.{YieldsList}
-use Rattle.std.proofs.lemmas.Iterator.Consumers.{nth_from_yields_List}
-use Prim.Native.Nat.{ℕ, ◌+◌, ◌<◌, ◌≤◌}
+use Prim.Native.Nat.{ℕ, suc, ◌+◌, ◌<◌, ◌≤◌}
 use mathlib.Core.Path.{◌≡◌, refl, ap, sym, ◌∙◌}
-use mathlib.Core.List.{List, [], ◌∷◌, ◌++◌}
+use mathlib.Core.List.{List, [], ◌∷◌, ◌++◌, append-nil, append_assoc}
 use mathlib.Core.Bool.{Bool, true, false, ◌||◌, false≢true}
 use native.Mathlib.Omega.{arith}
+use native.Mathlib.Numerals.{add-one}
 use lib.Dec.{eqb}
-use lib.ListN.{length, length-append}
+use lib.ListN.{length, drop, get_or, length-append, drop_of_length-le}
+use lib.Seq.{drop-cons}
 use Rattle.decimal.specs.Answer.{refused, pick}
 use Rattle.decimal.specs.Digits.{precision}
 use Rattle.decimal.specs.Image.{point_byte, sign_bytes}
@@ -105,45 +101,61 @@ pub long_refused : (m : Marks) (field : List ℕ) → text_room < length (withou
 unfolding read_marked
 long_refused m field long = converts_none (without_marks m field) (λ t form. omega (arith, form_short form (count_without m field)))
 
--- What the code keeps: the bytes that are read, of those that are not dropped.
+-- The loop over the field, behind so many bytes: what is kept of them and what is to be kept of the others make the whole.
 
-pub kept_lem : (m : Marks) (bytes : List ℕ) → map (read_byte m) (filter (λ b. not (is_dropped m b)) bytes) ≡ without_marks m bytes
+pub record Keeping (m : Marks) (field kept : List ℕ) (place : ℕ) : Type 0 where
+  pub whole : kept ++ without_marks m (drop place field) ≡ without_marks m field
+
+-- before the first byte
+pub keeping_starts : (m : Marks) (field : List ℕ) {kept : List ℕ} → kept ≡ [] → Keeping m field kept 0
+keeping_starts m field none = record { whole = ap (λ (l : List ℕ). l ++ without_marks m field) none }
+
+-- behind the last one
+pub keeping_ends : (m : Marks) (field : List ℕ) {kept : List ℕ} {place : ℕ} → Keeping m field kept place → length field ≤ place → kept ≡ without_marks m field
 unfolding without_marks
-kept_lem m [] = refl
-kept_lem m (b ∷ bs) = go (is_dropped m b) (kept_lem m bs)
-  where
-    go : (t : Bool)
-        → map (read_byte m) (filter (λ b. not (is_dropped m b)) bs) ≡ without_marks m bs
-        → map (read_byte m) (cond (not t) (b ∷ filter (λ b. not (is_dropped m b)) bs) (filter (λ b. not (is_dropped m b)) bs))
-        ≡ pick t (without_marks m bs) (read_byte m b ∷ without_marks m bs)
-    go true h = h
-    go false h = ap (λ (l : List ℕ). read_byte m b ∷ l) h
+keeping_ends m field {kept} {place} r h =
+    sym (append-nil kept) ∙ ap (λ (l : List ℕ). kept ++ without_marks m l) (sym (drop_of_length-le field h)) ∙ r.whole
 
--- behind none
-pub kept_first : {before : List ℕ} → before ≡ [] → (m : Marks) (bytes : List ℕ) → before ++ map (read_byte m) (filter (λ b. not (is_dropped m b)) bytes) ≡ without_marks m bytes
-kept_first none m bytes = ap (λ (l : List ℕ). l ++ map (read_byte m) (filter (λ b. not (is_dropped m b)) bytes)) none ∙ kept_lem m bytes
+module _ (m : Marks) (field : List ℕ) (place : ℕ) (h : place < length field) where
+  -- a byte that stands at a place
+  byte_there : (test : Bool) → is_dropped m (get_or field place 0) ≡ test
+      → without_marks m (drop place field)
+      ≡ pick test (without_marks m (drop (place + 1) field)) (read_byte m (get_or field place 0) ∷ without_marks m (drop (place + 1) field))
+  unfolding without_marks
+  byte_there test e =
+      rw (add-one place)
+      (ap (without_marks m) (drop-cons field place 0 h)
+      ∙ ap (λ (t : Bool). pick t (without_marks m (drop (suc place) field)) (read_byte m (get_or field place 0) ∷ without_marks m (drop (suc place) field))) e)
 
--- what holds of a refusal holds where there is one
-on_refusal : {A E P : Type 0} (r : Result A E) → true ≡ is_err r → OnErr r P → P
-on_refusal (Ok x) e p = absurd (false≢true (sym e))
-on_refusal (Err x) e p = p
+  module _ {kept : List ℕ} (r : Keeping m field kept place) where
+    -- it is dropped
+    pub keeping_drops : {next : List ℕ} → is_dropped m (get_or field place 0) ≡ true → next ≡ kept → Keeping m field next (place + 1)
+    keeping_drops e w =
+        record {
+          whole =
+              ap (λ (l : List ℕ). l ++ without_marks m (drop (place + 1) field)) w
+              ∙ ap (λ (l : List ℕ). kept ++ l) (sym (byte_there true e))
+              ∙ r.whole;
+        }
 
--- and what holds of a result where there is none
-pub on_result : {A E P : Type 0} (r : Result A E) → false ≡ is_err r → OnOk r P → P
-on_result (Ok x) e p = p
-on_result (Err x) e p = absurd (false≢true e)
+    module _ (e : is_dropped m (get_or field place 0) ≡ false) where
+      -- it is not
+      byte_kept : kept ++ (read_byte m (get_or field place 0) ∷ without_marks m (drop (place + 1) field)) ≡ without_marks m field
+      byte_kept = ap (λ (l : List ℕ). kept ++ l) (sym (byte_there false e)) ∙ r.whole
 
--- where a list of n items had no room for one more, more than n came
-pub more_came :
-    {T A E : Type 0} {steps : T → Option A → T → Type 0} {all : List A} {s : T} {n : ℕ} (before kept : List A) (r : Result (Unit {0}) E)
-    → before ≡ []
-    → true ≡ is_err r
-    → OnErr r ((it : T) × (xs : List A) × (x : A) × (rest : T) × (it ≡ s) × YieldsThen steps it xs (Some x) rest × (kept ≡ before ++ xs))
-    → OnErr r (length kept ≡ n)
-    → YieldsList steps (λ x. x) s all
-    → n < length all
-more_came {T} {A} {E} {steps} {all} {s} {n} before kept r none e more full road =
-    let m = on_refusal r e more in
-    let yields = subst (λ (t : T). YieldsThen steps t m.1 (Some m.2) m.3) m.4 m.5 in
-    let long = ap length (sym (m.6 ∙ ap (λ (l : List A). l ++ m.1) none)) ∙ on_refusal r e full in
-    slice_get_within all n m.2 (sym (nth_from_yields_List (Some m.2) m.3 n (m.1, yields, long) road))
+      -- it is kept
+      pub keeping_keeps : {next : List ℕ} → next ≡ kept ++ (read_byte m (get_or field place 0) ∷ []) → Keeping m field next (place + 1)
+      keeping_keeps w =
+          record {
+            whole =
+                ap (λ (l : List ℕ). l ++ without_marks m (drop (place + 1) field)) w
+                ∙ append_assoc kept (read_byte m (get_or field place 0) ∷ []) (without_marks m (drop (place + 1) field))
+                ∙ byte_kept;
+          }
+
+      -- where there is no room for it, the field is refused with 8
+      pub keeping_full : text_room ≤ length kept → refused 8 0 ≡ read_marked m field
+      keeping_full full =
+          let more = ap length (sym byte_kept) in
+          let all = length-append kept (read_byte m (get_or field place 0) ∷ without_marks m (drop (place + 1) field)) in
+          sym (long_refused m field (omega (arith, full, more, all)))

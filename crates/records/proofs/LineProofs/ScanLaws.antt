@@ -6,6 +6,7 @@ use native.Mathlib.Numerals.{add-one}
 use mathlib.Core.Path.{◌≡◌, refl, ap, sym, subst, ◌∙◌}
 use mathlib.Core.List.{List, [], ◌∷◌}
 use mathlib.Core.Bool.{Bool, true, false, false≢true}
+use Rattle.std.specs.Prelude.{◌==◌}
 use lib.Dec.{eqb}
 use lib.ListN.{length, take, drop, get_or, length-drop, drop_of_length-le}
 use lib.Seq.{drop-cons, drop-drop, get_or-drop}
@@ -335,6 +336,18 @@ onward_starts bytes = record { scanning = scanning_starts bytes; left = refl; in
 pub onward_ends : {bytes rest : List ℕ} {scanned : Scanned} {s : State} {read : ℕ} → Onward bytes scanned s read rest → length rest ≡ 0
     → scanned ≡ scanned_field bytes
 onward_ends {bytes} {read = read} r h = scanning_ends r.scanning (omega (arith, ap length r.left, length-drop read bytes))
+
+-- the # signs that stand there, or one byte, by the first byte and those behind it
+pub step_is : (rest : List ℕ) {size : ℕ} → 0 < length rest
+    → size ≡ pick (get_or rest 0 0 == hash_byte) (hashes_in (take (length rest - 1) (drop 1 rest)) + 1) 1
+    → size ≡ max (hashes_in rest) 1
+step_is [] h e = absurd (omega arith)
+step_is (b ∷ bs) {size} h e =
+    go (b == hash_byte) (e ∙ ap (λ (l : List ℕ). pick (b == hash_byte) (hashes_in l + 1) 1) (take_rest (b ∷ bs) 1))
+  where
+    go : (test : Bool) → size ≡ pick test (hashes_in bs + 1) 1 → size ≡ max (pick test (suc (hashes_in bs)) 0) 1
+    go true w = omega arith
+    go false w = omega arith
 
 module _ {bytes rest : List ℕ} {scanned : Scanned} {s t : State} {read : ℕ}
     (r : Onward bytes scanned s read rest) (h : 0 < length rest) (e : t ≡ next_state s (get_or rest 0 0)) where

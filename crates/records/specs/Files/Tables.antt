@@ -5,7 +5,7 @@ use Rattle.records.specs.declared.files.record_file.RecordFile.{RecordFile}
 
 -- its table
 abbrev pub table_in : RecordFile → Table
-table_in f = f.contents
+table_in f = f.held
 
 -- its bytes
 abbrev pub bytes_in : RecordFile → List ℕ

@@ -29,7 +29,7 @@ impl<'a> RecordFile<'a> {
         ensures answer { mapped checked_table (meaning result) ≡ checked_file (bytes_in self.entry) }
         ensures bytes { IfOk result (λ checked. checked_bytes checked ≡ bytes_in self.entry) }
     {
-        self.contents.check_bodies(self.all_bodies())?;
+        self.held.contents.check_bodies(self.all_bodies())?;
         Ok(CheckedFile { file: self })
     }
 }
@@ -51,7 +51,7 @@ impl<'a> CheckedFile<'a> {
         ensures contents { result.now ≡ checked_table self.now }
         ensures checked { checked_file (checked_bytes self.now) ≡ done (checked_table self.now) }
     {
-        &self.file.contents
+        &self.file.held.contents
     }
 
     // The count of its records.

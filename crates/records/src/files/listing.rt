@@ -5,7 +5,7 @@ ghost use Rattle.codec.specs.Columns.{Sound};
 ghost use Rattle.codec.specs.Alpha.{line_length};
 ghost use Rattle.codec.specs.Answers.{stored_in, within, sized};
 ghost use Rattle.records.specs.Files.CheckedFile.{checked_bytes};
-ghost use Rattle.records.specs.Files.Listing.{count_line, listed, refusal_line, report_of, lines_of, body_line};
+ghost use Rattle.records.specs.Files.Listing.{max_report, count_line, listed, refusal_line, report_of, lines_of, body_line};
 
 use crate::files::checked_file::CheckedFile;
 use crate::files::writing::{decimal_length, write_decimal};
@@ -17,6 +17,13 @@ pub const MAX_FILE: usize = 65536;
 
 // A report has at most so many bytes.
 pub const MAX_REPORT: usize = 4 * MAX_FILE + 64;
+
+// The length of a buffer that every report fits: MAX_REPORT, of which the listing program makes its own.
+pub fn report_length() -> usize
+    ensures { result ≡ max_report }
+{
+    MAX_REPORT
+}
 
 // The bytes of a line with a word of 7 bytes, a blank, a count and 0A, without the count's digits.
 const COUNT_LINE: usize = 9;

@@ -16,21 +16,38 @@ ghost use Rattle.records.specs.Files.RecordFile.{
   written_behind,
   shown,
   shown_bodies,
+  shown_part,
   now_of,
   range_of,
 };
 
 use codec::{Contents, pack};
 use decimal::{Number, Reason, Refusal};
+use std::marker::Model;
 use std::ops::Range;
 use std::slice::ChunksExact;
+
+// The contents of a file, in a struct that is not Copy: where a struct with a & holds a Copy value with a model, no result of it can be
+// passed on by ?, here and in callers.
+#[derive(Debug, Drop)]
+pub(crate) struct HeldContents {
+    pub(crate) contents: Contents,
+}
+
+impl Model for HeldContents {
+    ghost use Rattle.codec.specs.Contents.{Table};
+
+    ghost Value = { Table };
+
+    ghost view = { λ held. held.contents };
+}
 
 // A record file that was read: its contents, and its bytes, which are whole bodies behind the contents.
 #[derive(Debug, Drop)]
 pub struct RecordFile<'a> {
-    pub(crate) contents: Contents,
+    pub(crate) held: HeldContents,
     file: &'a [u8],
-    pub ghost reads: { read_file file.now ≡ done contents },
+    pub ghost reads: { read_file file.now ≡ done held },
 }
 
 impl<'a> RecordFile<'a> {
@@ -47,7 +64,8 @@ impl<'a> RecordFile<'a> {
         ensures bytes { IfOk result (λ read. bytes_in read ≡ file.now) }
     {
         if (file.len() - contents.size()) % contents.body_size() == 0 {
-            Ok(RecordFile { contents, file })
+            let held = HeldContents { contents };
+            Ok(RecordFile { held, file })
         } else {
             Err(Refusal::WRONG_LENGTH)
         }
@@ -66,14 +84,14 @@ impl<'a> RecordFile<'a> {
     pub fn contents(&self) -> &Contents
         ensures { result.now ≡ table_in self.now }
     {
-        &self.contents
+        &self.held.contents
     }
 
     // Its contents alone; the bytes are lent no more.
     pub(crate) fn into_contents(self) -> Contents
         ensures { result ≡ table_in self.entry }
     {
-        self.contents
+        self.held.contents
     }
 
     // The count of its records.
@@ -81,7 +99,7 @@ impl<'a> RecordFile<'a> {
     pub fn count(&self) -> usize
         ensures { result ≡ record_count (table_in self.now) (bytes_in self.now) }
     {
-        (self.file.len() - self.contents.size()) / self.contents.body_size()
+        (self.file.len() - self.held.contents.size()) / self.held.contents.body_size()
     }
 
     // The bytes of its bodies, from the first body.
@@ -89,7 +107,7 @@ impl<'a> RecordFile<'a> {
     pub(crate) fn all_bodies(&self) -> &'a [u8]
         ensures { result.now ≡ drop (table_in self.now).size (bytes_in self.now) }
     {
-        &self.file[self.contents.size()..]
+        &self.file[self.held.contents.size()..]
     }
 
     // Its bodies, from the first.
@@ -98,7 +116,8 @@ impl<'a> RecordFile<'a> {
         ensures rest { chunks_exact_rest result ≡ drop (table_in self.now).size (bytes_in self.now) }
         ensures size { chunks_exact_size result ≡ body_size (table_in self.now).images }
     {
-        self.all_bodies().chunks_exact(self.contents.body_size())
+        self.all_bodies()
+            .chunks_exact(self.held.contents.body_size())
     }
 
     // Where the body of a record stands in the file, by its number from 0: refused with 12.
@@ -112,8 +131,8 @@ impl<'a> RecordFile<'a> {
                 place: 0,
             });
         }
-        let size = self.contents.body_size();
-        let start = self.contents.size() + index * size;
+        let size = self.held.contents.body_size();
+        let start = self.held.contents.size() + index * size;
         Ok(start..start + size)
     }
 
@@ -185,7 +204,8 @@ pub fn add(used: usize, numbers: &[Number], buffer: &mut [u8]) -> Result<usize, 
 // The body of a record of a file, by its number from 0: refused as the file is, then with 12.
 #[tactic(auto, using(crate::proofs::FileProofs::FileLaws::shows_refused), unfolding(decimal::specs::Answer::mapped))]
 pub fn show(file: &[u8], index: usize) -> Result<&[u8], Refusal>
-    ensures { mapped now_of (meaning result) ≡ shown_bodies file.now index }
+    ensures answer { mapped now_of (meaning result) ≡ shown_bodies file.now index }
+    ensures part { IfOk result (λ body. body.now ≡ shown_part file.now index) }
 {
     RecordFile::read(file)?.body(index)
 }

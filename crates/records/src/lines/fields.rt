@@ -206,12 +206,13 @@ fn read_marked(field: &[u8], marks: Marks) -> Result<Number, Refusal>
     ensures { meaning result ≡ read_marked marks field.now }
 {
     let mut kept: ArrayVec<u8, TEXT_ROOM> = ArrayVec::new();
-    let read = field
-        .iter()
-        .filter(|byte| !marks.is_dropped(**byte))
-        .map(|byte| marks.read_byte(*byte));
-    if kept.extend(read).is_err() {
-        return Err(NO_NUMBER);
+    for byte in field {
+        if !marks.is_dropped(*byte) {
+            if kept.is_full() {
+                return Err(NO_NUMBER);
+            }
+            kept.push(marks.read_byte(*byte));
+        }
     }
     convert(kept.as_slice())
 }

@@ -1,5 +1,5 @@
 // The fields of a line image, each found once (document 01: Print lines).
-ghost use Rattle.std.specs.Prelude.{◌≡◌, ◌+◌, ◌<◌, ◌≤◌, length, IfOk, position};
+ghost use Rattle.std.specs.Prelude.{◌≡◌, ◌+◌, ◌<◌, ◌≤◌, length, IfOk};
 ghost use Rattle.decimal.specs.Answer.{meaning, checked_only};
 ghost use Rattle.decimal.specs.Digits.{precision};
 ghost use Rattle.records.specs.Lines.Scanning.{scanned_field};
@@ -30,13 +30,6 @@ fn begins(byte: u8) -> bool
     (b'#'..=b'.').contains(&byte) && matches!(byte, b'+' | b'-' | b'#' | b'.')
 }
 
-// The place of the first byte that can begin a field.
-fn next_start(bytes: &[u8]) -> Option<usize>
-    ensures { result ≡ position begins_field bytes.now }
-{
-    bytes.iter().position(|&byte| begins(byte))
-}
-
 // The field that was scanned of the bytes from a place on. Its image is made as read_image makes one, of other counts: both are checked by
 // check_digits.
 #[tactic(auto, using(crate::proofs::LineProofs::LineFieldLaws::scanned_few))]
@@ -58,7 +51,7 @@ fn field_at(bytes: &[u8], at: usize, scanned: Scanned) -> Field
 }
 
 // The first FIELDS fields of a line; refused with 2 and the field where one of all has more than PRECISION # signs.
-// It goes from place to place: past a field, or past a byte that begins none.
+// It goes on past a field, or past a byte that begins none.
 pub(crate) fn find_fields(line: &[u8]) -> Result<ArrayVec<Field, FIELDS>, Refusal>
     requires { length line.now ≤ max_line }
     ensures listed { IfOk result (λ fields. Listed line.now fields.items) }
@@ -66,21 +59,24 @@ pub(crate) fn find_fields(line: &[u8]) -> Result<ArrayVec<Field, FIELDS>, Refusa
 {
     let mut fields = ArrayVec::new();
     let mut count = 0;
-    let mut at = 0;
-    while let Some(skipped) = next_start(&line[at..]) {
-        at += skipped;
-        let bytes = &line[at..];
-        let scanned = scan_field(bytes);
-        if scanned.length == 0 {
-            at += 1;
+    let mut rest = line;
+    while let [first, behind @ ..] = rest {
+        if !begins(*first) {
+            rest = behind;
             continue;
         }
+        let scanned = scan_field(rest);
+        if scanned.length == 0 {
+            rest = behind;
+            continue;
+        }
+        let at = line.len() - rest.len();
         check_digits(scanned.integer + scanned.fraction, count)?;
         if !fields.is_full() {
-            fields.push(field_at(bytes, at, scanned));
+            fields.push(field_at(rest, at, scanned));
         }
         count += 1;
-        at += scanned.length;
+        rest = &rest[scanned.length..];
     }
     Ok(fields)
 }

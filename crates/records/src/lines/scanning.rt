@@ -1,5 +1,7 @@
 // The field that starts at a place of a line image (document 01: Print lines).
-ghost use Rattle.std.specs.Prelude.{◌≡◌, drop};
+ghost use Rattle.std.specs.Prelude.{◌≡◌, ◌+◌, ◌==◌, drop};
+ghost use Rattle.decimal.specs.Answer.{pick};
+ghost use Rattle.decimal.specs.Image.{hash_byte, hashes_in};
 ghost use Rattle.records.specs.Lines.Scanning.{field_length, scanned_field};
 
 use decimal::leading_run;
@@ -15,8 +17,21 @@ pub(crate) struct Scanned {
     pub exponential: bool,
 }
 
-// The field that bytes begin with, all 0 where the first byte is literal or there is none. A # behind a # leads to no other state, so a run
-// of # signs is read in one step.
+// How many bytes the machine reads in one step: a run of # signs, since a # behind a # leads to no other state, else one byte.
+#[inline(always)]
+#[tactic(auto, using(decimal::proofs::StepLaws::run_inside))]
+fn step_size(first: u8, behind: &[u8]) -> usize
+    ensures { result ≡ pick (first == hash_byte) (hashes_in behind.now + 1) 1 }
+{
+    if first == b'#' {
+        leading_run(behind, b'#') + 1
+    } else {
+        1
+    }
+}
+
+// The field that bytes begin with, all 0 where the first byte is literal or there is none.
+#[inline(always)]
 pub(crate) fn scan_field(bytes: &[u8]) -> Scanned
     ensures { result ≡ scanned_field bytes.now }
 {
@@ -29,37 +44,29 @@ pub(crate) fn scan_field(bytes: &[u8]) -> Scanned
     let mut state = State::Start;
     let mut rest = bytes;
     let mut read = 0;
-    while let [first, ..] = rest {
+    while let [first, behind @ ..] = rest {
         state = next_state(state, *first);
-        let step = leading_run(rest, b'#').max(1);
+        if matches!(state, State::Stopped) {
+            return scanned;
+        }
+        let step = step_size(*first, behind);
         rest = &rest[step..];
         read += step;
         match state {
             State::Integer | State::Grouped => {
-                scanned = Scanned {
-                    length: read,
-                    integer: scanned.integer + step,
-                    fraction: scanned.fraction,
-                    exponential: false,
-                };
+                scanned.length = read;
+                scanned.integer += step;
+                scanned.exponential = false;
             }
             State::Fraction | State::GroupedFraction => {
-                scanned = Scanned {
-                    length: read,
-                    integer: scanned.integer,
-                    fraction: scanned.fraction + step,
-                    exponential: false,
-                };
+                scanned.length = read;
+                scanned.fraction += step;
+                scanned.exponential = false;
             }
             State::Exponential => {
-                scanned = Scanned {
-                    length: read,
-                    integer: scanned.integer,
-                    fraction: scanned.fraction,
-                    exponential: true,
-                };
+                scanned.length = read;
+                scanned.exponential = true;
             }
-            State::Stopped => return scanned,
             _ => {}
         }
     }

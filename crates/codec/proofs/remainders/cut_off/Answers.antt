@@ -18,16 +18,11 @@ invariant_of-fitting c =
     let step = c.in-Some.ensures.steps in
     record { fits = left_fits c.loop-image.invariant step.0 step.1 }
 
-pub push-requires : goal.push-requires
-push-requires c =
-    let step = c.in-Some.ensures.steps in
-    let many = left_length c.args.images.now c.args.numbers.now (packs_length c.requires.1) in
-    (omega arith, omega (arith, many, c.requires.0, c.loop-image.invariant.room, ap length step.0))
-
 pub loop-image-preserved : goal.loop-image-preserved
 loop-image-preserved c =
     let step = c.in-Some.ensures.steps in
-    leaving_turns c.loop-image.invariant step.0 step.1 c.remainder.ensures c.push.ensures.items
+    let many = left_length c.args.images.now c.args.numbers.now (packs_length c.requires.1) in
+    leaving_turns c.loop-image.invariant step.0 step.1 c.remainder.ensures (c.push.ensures.items (omega (arith, many, c.requires.0, c.loop-image.invariant.room, ap length step.0)))
 
 pub returns : goal.returns
 returns c =

@@ -4,10 +4,9 @@ use Rattle.decimal.proofs.StepLaws.{run_inside}
 use Rattle.codec.proofs.TextLaws.{onward, sign_inside, numeral_inside, read_none}
 use Rattle.codec.proofs.text.read_text.Goals as goal
 
-pub returns-then-numeral-eq0 : goal.returns-then-numeral-eq0
-returns-then-numeral-eq0 c =
-    read_none c.args.text.now c.leading_run-before.ensures c.leading_spaced_sign-sign.ensures c.leading_numeral-numeral.ensures
-    c.if-numeral-eq0.true
+pub returns-then-not-has_digit : goal.returns-then-not-has_digit
+returns-then-not-has_digit c =
+    read_none c.args.text.now c.leading_run-before.ensures c.leading_spaced_sign-sign.ensures c.has_digit.ensures c.if-not-has_digit.true
 
 pub overflow_add-end-2 : goal.overflow_add-end-2
 overflow_add-end-2 c =

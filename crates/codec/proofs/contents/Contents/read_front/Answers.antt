@@ -12,7 +12,9 @@ loop-column-init c = rw c.new-images.ensures (reading_starts c.in-Some.columns.n
 
 pub loop-column-preserved : goal.loop-column-preserved
 loop-column-preserved c =
-    reading_turns c.loop-column.invariant c.loop-column-test.true (sym (sym (mapped_done _ refl) ∙ c.in_ok-image.ensures.image)) c.push.ensures.items
+    let within = count_within _ c.in_ok-check_count.ensures in
+    reading_turns c.loop-column.invariant c.loop-column-test.true (sym (sym (mapped_done _ refl) ∙ c.in_ok-image.ensures.image))
+    (c.push.ensures.items (omega (arith, c.loop-column.invariant.as_many, c.loop-column-test.true, within.1)))
     c.in_ok-image.ensures.rest c.column_size-body.ensures
 
 pub invariant_of-result : goal.invariant_of-result

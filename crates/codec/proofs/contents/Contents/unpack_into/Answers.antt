@@ -12,15 +12,12 @@ loop-column-init c =
     (columns_start c.images-images.result.now c.args.body.now
     (c.if-body-body_size.false ∙ c.body_size.ensures ∙ ap Rattle.codec.specs.Columns.body_size (sym c.images-images.ensures.images)))
 
-pub push-requires : goal.push-requires
-push-requires c =
-    (omega arith, omega (arith, c.loop-column.invariant.counted, c.loop-column-test.true, c.images-images.ensures.sound.high, ap length c.images-images.ensures.images))
-
 pub loop-column-preserved : goal.loop-column-preserved
 loop-column-preserved c =
     rw c.split_at.ensures.back
     (columns_turn c.loop-column.invariant _ c.loop-column-test.true c.column_size.ensures
-    (ap (unpack_column c.loop-column.column _) (sym c.split_at.ensures.front) ∙ sym c.in-Ok.ensures) c.push.ensures.items)
+    (ap (unpack_column c.loop-column.column _) (sym c.split_at.ensures.front) ∙ sym c.in-Ok.ensures) (c.push.ensures.items
+    (omega (arith, c.loop-column.invariant.counted, c.loop-column-test.true, c.images-images.ensures.sound.high, ap length c.images-images.ensures.images))))
 
 -- the body is read as its columns are
 columns : (c : goal.After-loop-column) → unpack_body c.args.self.now.images c.args.body.now ≡ unpack_columns 0 c.images-images.result.now c.args.body.now
