@@ -17,6 +17,17 @@ const INPUT: usize = 1 << 18;
 // The most bytes of a word in hexadecimal.
 const SPACE: usize = 8192;
 
+// The name of a call in a word: bytes 00 before it are passed over; no name where the word has more than eight bytes.
+fn name_in(word: &[u8]) -> &[u8] {
+    if 8 < word.len() {
+        return &[];
+    }
+    match word.iter().position(|&byte| byte != 0) {
+        Some(first) => word.get(first..).unwrap_or(&[]),
+        None => &[],
+    }
+}
+
 // Makes the call of a name; a name that no call has is answered as no call is.
 fn make(
     out: &mut impl Write,
@@ -77,7 +88,7 @@ fn answer_line(out: &mut impl Write, line: &[u8]) -> io::Result<()> {
     let mut fourth = [0u8; SPACE];
     make(
         out,
-        words.next().unwrap_or(&[]),
+        name_in(words.next().unwrap_or(&[])),
         decode(words.next().unwrap_or(&[]), &mut first),
         &*decode(words.next().unwrap_or(&[]), &mut second),
         &*decode(words.next().unwrap_or(&[]), &mut third),
